@@ -1,8 +1,8 @@
--- The names of unused types, of lists of types one after another.
-use Rattle.std.proofs.Common.{◌≡◌, ℕ, ◌+◌, ◌<◌, List, [], ◌∷◌, ◌++◌, length, map, take, get_or, sym, ◌∙◌, ap, append_assoc}
+-- What is unused, of lists one after another: names of types, and what a test passes.
+use Rattle.std.proofs.Common.{◌≡◌, ℕ, ◌+◌, ◌<◌, ◌≤◌, Bool, List, [], ◌∷◌, ◌++◌, length, map, take, get_or, sym, ◌∙◌, ap, append_assoc}
 use Rattle.std.specs.Prelude.{filter}
 use Rattle.std.specs.List.{flat_map}
-use Rattle.std.proofs.lemmas.List.{map-append, flat_map_more}
+use Rattle.std.proofs.lemmas.List.{map-append, flat_map_more, take_all}
 use Rattle.std.proofs.lemmas.List.Elements.{filter-append}
 use Rattle.pgs_syntax.specs.declared.script.Member.{Member}
 use Rattle.pgs_syntax.specs.declared.script.Statement.{Statement}
@@ -32,3 +32,14 @@ module _ (used : List (List ℕ)) where
   more_statements statements i statement mid new h is before after =
       both [] mid new (flat_map declared_in (take i statements)) (declared_in statement) (flat_map declared_in (take (i + 1) statements)) before after
       (flat_map_more declared_in [] (take i statements) statement ∙ ap (flat_map declared_in) (sym (one_more statements i statement h is)))
+
+-- what a test passes of mapped items
+module _ {X Y : Type 0} (f : X → Y) (test : Y → Bool) where
+  pub more_passed : (xs : List X) (i : ℕ) (x : X) (mid new : List Y) → i < length xs → x ≡ get_or xs i x →
+      mid ≡ filter test (map f (take i xs)) → new ≡ mid ++ filter test (f x ∷ []) → new ≡ filter test (map f (take (i + 1) xs))
+  more_passed xs i x mid new h is before after =
+      after ∙ ap (λ ys. ys ++ filter test (f x ∷ [])) before ∙ sym (filter-append test (map f (take i xs)) (f x ∷ []))
+      ∙ ap (filter test) (sym (map-append f (take i xs) (x ∷ [])) ∙ ap (map f) (sym (one_more xs i x h is)))
+
+  pub all_passed : (xs : List X) (i : ℕ) (new : List Y) → length xs ≤ i → new ≡ filter test (map f (take i xs)) → new ≡ filter test (map f xs)
+  all_passed xs i new h before = before ∙ ap (λ ys. filter test (map f ys)) (take_all i xs h)

@@ -32,11 +32,15 @@ node_specs resolved = map (λ (type : NodeType Leaf). type.spec) resolved.nodes 
 abbrev pub edge_specs : Resolved → List (Spec Leaf)
 edge_specs resolved = map (λ (type : EdgeType Leaf). type.middle) resolved.edges
 
+-- what the types of a schema know, of nodes and of edges
+abbrev pub known_nodes : Resolved → Known
+known_nodes resolved = known_in (not (length resolved.nodes == 0)) (flat_map parts_of (node_specs resolved))
+
+abbrev pub known_edges : Resolved → Known
+known_edges resolved = known_in (not (length resolved.edges == 0)) (flat_map parts_of (edge_specs resolved))
+
 abbrev pub words_of : Resolved → Words
-words_of resolved = record {
-  nodes = known_in (not (length resolved.nodes == 0)) (flat_map parts_of (node_specs resolved));
-  edges = known_in (not (length resolved.edges == 0)) (flat_map parts_of (edge_specs resolved));
-}
+words_of resolved = record { nodes = known_nodes resolved; edges = known_edges resolved }
 
 -- Whether a label, or a key, is known: a type has it, or some type has any; or there is no type that could.
 abbrev pub knows_label : Known → List ℕ → Bool

@@ -2,7 +2,7 @@
 
 ghost use Rattle.std.specs.Prelude.{◌≡◌, ◌++◌, map, flat_map, IfOk, OnOk};
 ghost use Rattle.pgs_advice.specs.Parts.{parts_of};
-ghost use Rattle.pgs_advice.specs.Words.{known_in, node_specs, edge_specs, words_of, knows_label, knows_key, known_at};
+ghost use Rattle.pgs_advice.specs.Words.{known_in, known_nodes, known_edges, node_specs, edge_specs, words_of, knows_label, knows_key, known_at};
 
 use crate::parts::{keys_of, labels_of, push_parts, some_any_key, some_any_label};
 use pgs_base::{Memory, Name};
@@ -97,13 +97,33 @@ impl Known {
     fn of(alloc: Global, declared: bool, parts: &[&Spec<Leaf>]) -> Result<Known, Memory>
         ensures { IfOk result (λ known. known ≡ known_in declared (map (λ part. part.now) parts.now)) }
     {
+        let any_label = some_any_label(parts);
+        let any_key = some_any_key(parts);
+        let labels = labels_of(alloc, parts)?;
+        let keys = keys_of(alloc, parts)?;
         Ok(Known {
             declared,
-            labels: labels_of(alloc, parts)?,
-            keys: keys_of(alloc, parts)?,
-            any_label: some_any_label(parts),
-            any_key: some_any_key(parts),
+            labels,
+            keys,
+            any_label,
+            any_key,
         })
+    }
+
+    // What the specifications of nodes know.
+    fn of_nodes(alloc: Global, resolved: &Resolved) -> Result<Known, Memory>
+        ensures { IfOk result (λ known. known ≡ known_nodes resolved.now) }
+    {
+        let parts = node_parts(alloc, resolved)?;
+        Known::of(alloc, !resolved.nodes.is_empty(), &parts)
+    }
+
+    // What the specifications of edges know.
+    fn of_edges(alloc: Global, resolved: &Resolved) -> Result<Known, Memory>
+        ensures { IfOk result (λ known. known ≡ known_edges resolved.now) }
+    {
+        let parts = edge_parts(alloc, resolved)?;
+        Known::of(alloc, !resolved.edges.is_empty(), &parts)
     }
 
     /// Whether a label is known: a type has it, or OPEN stands among the labels of one; or there is no type.
@@ -126,12 +146,9 @@ impl Words {
     pub fn of(alloc: Global, resolved: &Resolved) -> Result<Words, Memory>
         ensures { IfOk result (λ words. words ≡ words_of resolved.now) }
     {
-        let nodes = node_parts(alloc, resolved)?;
-        let edges = edge_parts(alloc, resolved)?;
-        Ok(Words {
-            nodes: Known::of(alloc, !resolved.nodes.is_empty(), &nodes)?,
-            edges: Known::of(alloc, !resolved.edges.is_empty(), &edges)?,
-        })
+        let nodes = Known::of_nodes(alloc, resolved)?;
+        let edges = Known::of_edges(alloc, resolved)?;
+        Ok(Words { nodes, edges })
     }
 
     /// What is known at an edge place, or at a node place.

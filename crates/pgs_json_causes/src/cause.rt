@@ -1,6 +1,6 @@
 //! The cause for which a JSON value is no transaction.
 
-ghost use Rattle.std.specs.Prelude.{◌≡◌, ◌++◌, codes, IfOk, option_map};
+ghost use Rattle.std.specs.Prelude.{◌≡◌, ◌++◌, codes, decimal, IfOk, OnOk, option_map};
 ghost use Rattle.std.specs.List.{find};
 ghost use Rattle.pgs_json.specs.Form.{names_in};
 ghost use Rattle.pgs_json.specs.Tree.{view, items_view, members_view};
@@ -16,14 +16,21 @@ use std::alloc::Global;
 /// The most bytes that stand before the cause of an operation.
 const BEFORE: usize = 32;
 
+/// Puts the number of an operation last.
+fn push_op(number: u64, out: &mut TextBuffer) -> Result<(), Memory>
+    ensures { OnOk result (out.new ≡ out.old ++ (codes "op " ++ (decimal number ++ codes ": "))) }
+{
+    out.push(b"op ")?;
+    out.push_number(number)?;
+    out.push(b": ")
+}
+
 /// A cause behind the number of its operation.
 fn numbered(alloc: Global, number: u64, cause: &[u8]) -> Result<Bytes, Memory>
     ensures { IfOk result (λ text. text ≡ numbered number cause.now) }
 {
     let mut out = TextBuffer::with_room(alloc, cause.len().saturating_add(BEFORE))?;
-    out.push(b"op ")?;
-    out.push_number(number)?;
-    out.push(b": ")?;
+    push_op(number, &mut out)?;
     out.push(cause)?;
     Ok(out.into_bytes())
 }

@@ -1,6 +1,6 @@
 //! The causes of a member of an operation, by the test that finds one.
 
-ghost use Rattle.std.specs.Prelude.{◌≡◌, ◌++◌, None, codes, decimal, not, map, IfOk, option_map, option_and_then};
+ghost use Rattle.std.specs.Prelude.{◌≡◌, ◌++◌, None, codes, decimal, not, map, IfOk, Some, option_map, option_and_then};
 ghost use Rattle.std.specs.List.{find};
 ghost use Rattle.pgs_base.specs.Name.{is_name};
 ghost use Rattle.pgs_base_text.specs.Text.{quoted};
@@ -18,6 +18,14 @@ use pgs_base_text::TextBuffer;
 use pgs_json::{Json, Member, member};
 use std::alloc::Global;
 
+/// A member's name, quoted, and words behind it, as a cause.
+fn member_told(alloc: Global, name: &str, words: &[u8]) -> Result<Option<Bytes>, Memory>
+    ensures { IfOk result (λ cause. cause ≡ Some (quoted name.now ++ words.now)) }
+{
+    let text = of_member(alloc, name, words)?;
+    Ok(Some(text))
+}
+
 /// A member that has to be an id.
 fn id_cause(
     alloc: Global,
@@ -28,7 +36,7 @@ fn id_cause(
     ensures { IfOk result (λ cause. cause ≡ id_cause name.now form (view value.now)) }
 {
     match (form, value.as_u64()) {
-        (MemberForm::Id, None) => Ok(Some(of_member(alloc, name, b" is no id")?)),
+        (MemberForm::Id, None) => member_told(alloc, name, b" is no id"),
         _ => Ok(None),
     }
 }
@@ -70,7 +78,7 @@ fn text_cause(
     match form {
         MemberForm::Name => match value.as_str() {
             Some(_) => Ok(None),
-            None => Ok(Some(of_member(alloc, name, b" is no name")?)),
+            None => member_told(alloc, name, b" is no name"),
         },
         MemberForm::Labels => match value.as_array().and_then(|items| first_no_text(items)) {
             Some(number) => Ok(Some(item_cause(alloc, name, number)?)),
@@ -171,11 +179,11 @@ fn parts_cause(
     match form {
         MemberForm::Labels => match value.as_array() {
             Some(_) => Ok(None),
-            None => Ok(Some(of_member(alloc, name, b" is no list")?)),
+            None => member_told(alloc, name, b" is no list"),
         },
         MemberForm::Props => match value.as_object() {
             Some(_) => Ok(None),
-            None => Ok(Some(of_member(alloc, name, b" is no object")?)),
+            None => member_told(alloc, name, b" is no object"),
         },
         MemberForm::Id | MemberForm::Name | MemberForm::Value => Ok(None),
     }

@@ -4,7 +4,7 @@ ghost use Rattle.pgs_json_causes.specs.MemberForms.{is_optional, kind_word, memb
 use pgs_json::Kind;
 
 /// What a member of an operation has to be.
-#[derive(Clone, Copy, PartialEq, Eq)]
+#[derive(Clone, Copy)]
 pub enum MemberForm {
     Id,
     Name,

@@ -1,5 +1,5 @@
 /// What is tested of the members of an operation, in this order.
-#[derive(Clone, Copy, PartialEq, Eq)]
+#[derive(Clone, Copy)]
 pub enum MemberTest {
     /// Ids are ids.
     Ids,

@@ -3,7 +3,7 @@
 use fast_float::Numeral;
 
 /// What a number has so far.
-#[derive(Clone, Copy, PartialEq, Eq)]
+#[derive(Clone, Copy)]
 pub enum NumberPart {
     Minus,
     /// A 0 with nothing before it, or a minus.

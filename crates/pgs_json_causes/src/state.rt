@@ -7,7 +7,7 @@ use crate::text_state::TextState;
 const DEEPEST: u8 = 127;
 
 /// What may come between tokens.
-#[derive(Clone, Copy, PartialEq, Eq)]
+#[derive(Clone, Copy)]
 pub enum Wanted {
     Value,
     /// A value, or the end of the array that has just begun.
@@ -126,6 +126,19 @@ impl State {
         }
     }
 
+    /// Behind a byte behind a value, which is none of the spaces.
+    fn behind_value(self, byte: u8) -> Option<State> {
+        let is_in_object = self.nesting.is_in_object();
+        let is_in_array = self.nesting.is_in_array();
+        match byte {
+            b',' if is_in_object => Some(self.at(Place::Between(Wanted::Name))),
+            b',' if is_in_array => Some(self.at(Place::Between(Wanted::Value))),
+            b'}' if is_in_object => Some(self.closed()),
+            b']' if is_in_array => Some(self.closed()),
+            _ => None,
+        }
+    }
+
     /// Behind a byte between tokens, where this is wanted.
     fn between(self, wanted: Wanted, byte: u8) -> Option<State> {
         match (wanted, byte) {
@@ -136,14 +149,7 @@ impl State {
                 Some(self.at(Place::Text(TextState::Plain, true)))
             }
             (Wanted::Colon, b':') => Some(self.at(Place::Between(Wanted::Value))),
-            (Wanted::Comma, b',') if self.nesting.is_in_object() => {
-                Some(self.at(Place::Between(Wanted::Name)))
-            }
-            (Wanted::Comma, b',') if self.nesting.is_in_array() => {
-                Some(self.at(Place::Between(Wanted::Value)))
-            }
-            (Wanted::Comma, b'}') if self.nesting.is_in_object() => Some(self.closed()),
-            (Wanted::Comma, b']') if self.nesting.is_in_array() => Some(self.closed()),
+            (Wanted::Comma, _) => self.behind_value(byte),
             _ => None,
         }
     }

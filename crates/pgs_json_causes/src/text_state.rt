@@ -1,7 +1,7 @@
 //! A text that is read byte by byte, behind its first quote.
 
 /// What stands before a byte of a text.
-#[derive(Clone, Copy, PartialEq, Eq)]
+#[derive(Clone, Copy)]
 pub enum TextState {
     /// Whole characters.
     Plain,

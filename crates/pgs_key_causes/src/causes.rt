@@ -248,15 +248,15 @@ impl KeyGuide<'_> {
         number: u32,
         elem: Elem,
         steps: &mut Steps<L>,
-    ) -> Result<Vec<Bytes>, Memory>
+    ) -> Result<List<Bytes>, Memory>
         requires { GuidesTo self.now compiled.now }
-        ensures causes { IfOk result (λ causes. AreCausesWithEnd compiled.now (G.meaning graph.now) self.now number elem causes.items) }
+        ensures causes { IfOk result (AreCausesWithEnd compiled.now (G.meaning graph.now) self.now number elem) }
         ensures no_step_back { steps.old ≤ steps.new }
     {
         let mut ends = self.ends(alloc, graph, compiled, number, elem, steps)?;
         let mut causes = self.key_text(alloc, number)?;
         causes.append(&mut ends)?;
-        Ok(causes)
+        Ok(List::from_vec(causes))
     }
 }
 
@@ -278,18 +278,14 @@ pub fn key_causes<G: GraphRead, L: Ledger>(
     match violation {
         Violation::UntypedNode { .. } | Violation::UntypedEdge { .. } => Ok(List::new(alloc)),
         Violation::Mandatory { key, elem } => {
-            let causes = guide.causes_with_end(alloc, graph, compiled, *key, *elem, steps)?;
-            Ok(List::from_vec(causes))
+            guide.causes_with_end(alloc, graph, compiled, *key, *elem, steps)
         }
         Violation::CountOutside {
             key,
             elem,
             count: 0,
             ..
-        } => {
-            let causes = guide.causes_with_end(alloc, graph, compiled, *key, *elem, steps)?;
-            Ok(List::from_vec(causes))
-        }
+        } => guide.causes_with_end(alloc, graph, compiled, *key, *elem, steps),
         Violation::Singleton { key, .. }
         | Violation::Exclusive { key, .. }
         | Violation::CountOutside { key, .. } => {

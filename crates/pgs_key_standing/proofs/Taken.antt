@@ -41,6 +41,19 @@ Pairs = List NodeRow
 
 -- ---- what is there
 
+-- nothing is no value, and what holds two equal ones is equal
+none_is_some : {X Y : Type 0} (x : X) → None ≡ Some x → Y
+none_is_some x e = cc
+
+same_node : (a b : NodeId) → Node a ≡ Node b → a ≡ b
+same_node a b e = cc
+
+same_edge : (a b : EdgeId) → Edge a ≡ Edge b → a ≡ b
+same_edge a b e = cc
+
+same_some_edge : (a b : EdgeId) → Some (Edge a) ≡ Some (Edge b) → a ≡ b
+same_some_edge a b e = cc
+
 node_listed : (elem : Elem) (nodes : List (NodeId × NodeRow)) → list_any (same_elem elem) (map (λ (node : NodeId × NodeRow). Node node.0) nodes) ≡ true →
     (id : NodeId) × (p : NodeRow) × (elem ≡ Node id) × (lookup (is_at (node_cmp id)) nodes ≡ Some p)
 node_listed elem [] h = absurd (true≢false (sym h))
@@ -57,11 +70,8 @@ node_listed (Node id) (n ∷ nodes) h = by (node_listed (Node id) nodes) (is_at 
           later.1,
           refl,
           ap (λ b. cond b (Some n.1) (lookup (is_at (node_cmp id)) nodes)) e
-              ∙ ap (λ other. lookup (is_at (node_cmp other)) nodes) (one_node id later.0 later.2) ∙ later.3,
+              ∙ ap (λ other. lookup (is_at (node_cmp other)) nodes) (same_node id later.0 later.2) ∙ later.3,
         )
-      where
-        one_node : (a b : NodeId) → Node a ≡ Node b → a ≡ b
-        one_node a b e = cc
 
 pub edge_listed : (elem : Elem) (edges : List (EdgeId × EdgeRow)) → list_any (same_elem elem) (map (λ (edge : EdgeId × EdgeRow). Edge edge.0) edges) ≡ true →
     (id : EdgeId) × (row : EdgeRow) × (elem ≡ Edge id) × (lookup (is_at (edge_cmp id)) edges ≡ Some row)
@@ -79,11 +89,8 @@ edge_listed (Edge id) (n ∷ edges) h = by (edge_listed (Edge id) edges) (is_at 
           later.1,
           refl,
           ap (λ b. cond b (Some n.1) (lookup (is_at (edge_cmp id)) edges)) e
-              ∙ ap (λ other. lookup (is_at (edge_cmp other)) edges) (one_edge id later.0 later.2) ∙ later.3,
+              ∙ ap (λ other. lookup (is_at (edge_cmp other)) edges) (same_edge id later.0 later.2) ∙ later.3,
         )
-      where
-        one_edge : (a b : EdgeId) → Edge a ≡ Edge b → a ≡ b
-        one_edge a b e = cc
 
 -- what is found passes, under some key, the test that all entries pass
 pub found_passes : {K V : Type 0} (test : V → Bool) (at : K → Bool) (es : List (K × V)) (v : V) → list_all (λ (e : K × V). test e.1) es ≡ true → lookup at es ≡ Some v → test v ≡ true
@@ -146,6 +153,28 @@ module _ (resolved : Resolved) (g : Graph) (elems : List Elem) where
   ends_led edge (FitsEdge v n ∷ atoms) some all = ends_led edge atoms some (and_parts _ _ all).1
   ends_led edge (Equals v k value ∷ atoms) some all = ends_led edge atoms some (and_parts _ _ all).1
 
+-- the element of a place is there
+elem_there : (g : Graph) (kinds : List Bool) (es : List Elem) (j : ℕ) (kind : Bool) → are_there g kinds es ≡ true → slice_get kinds j ≡ Some kind →
+    (elem : Elem) × (slice_get es j ≡ Some elem) × (list_any (same_elem elem) (elements g kind) ≡ true)
+elem_there g [] es j kind all at = none_is_some kind at
+elem_there g (k ∷ kinds) [] j kind all at = absurd (true≢false (sym all))
+elem_there g (k ∷ kinds) (e ∷ es) zero kind all at = (e, refl, ap (λ b. list_any (same_elem e) (elements g b)) (sym (same_Some k kind at)) ∙ (and_parts _ _ all).0)
+elem_there g (k ∷ kinds) (e ∷ es) (suc j) kind all at = elem_there g kinds es j kind (and_parts _ _ all).1 at
+
+-- as many elements as places
+counted : (g : Graph) (kinds : List Bool) (es : List Elem) → are_there g kinds es ≡ true → length es ≡ length kinds
+counted g [] [] h = refl
+counted g [] (e ∷ es) h = absurd (true≢false (sym h))
+counted g (k ∷ kinds) [] h = absurd (true≢false (sym h))
+counted g (k ∷ kinds) (e ∷ es) h =
+    let rest : length es ≡ length kinds = counted g kinds es (and_parts (list_any (same_elem e) (elements g k)) (are_there g kinds es) h).1 in omega arith
+
+at_start : (i : ℕ) → i + 0 ≡ i
+at_start i = omega arith
+
+one_behind : (i j : ℕ) → i + suc j ≡ (i + 1) + j
+one_behind i j = omega arith
+
 abbrev pub empty : NodeRow
 empty = pair_of [] []
 
@@ -157,28 +186,20 @@ module _ (resolved : Resolved) (placed : Placed) (ok : IsPlaced placed) (g : Gra
   abbrev pub taken : Pairs
   taken = map row_of elems
 
-  -- the element of a place is there
-  elem_there : (kinds : List Bool) (es : List Elem) (j : ℕ) (kind : Bool) → are_there g kinds es ≡ true → slice_get kinds j ≡ Some kind →
-      (elem : Elem) × (slice_get es j ≡ Some elem) × (list_any (same_elem elem) (elements g kind) ≡ true)
-  elem_there [] es j kind all at = cc
-  elem_there (k ∷ kinds) [] j kind all at = absurd (true≢false (sym all))
-  elem_there (k ∷ kinds) (e ∷ es) zero kind all at = (e, refl, ap (λ b. list_any (same_elem e) (elements g b)) (sym (same_Some k kind at)) ∙ (and_parts _ _ all).0)
-  elem_there (k ∷ kinds) (e ∷ es) (suc j) kind all at = elem_there kinds es j kind (and_parts _ _ all).1 at
-
   -- a pair that an element of a place carries stands at the place
   stood : (j : ℕ) (elem : Elem) (p : NodeRow) → slice_get elems j ≡ Some elem → carried g elem ≡ Some p → slice_get taken j ≡ Some p
   stood j elem p at is = slice_get-map row_of elems j ∙ ap (option_map row_of) at ∙ ap (λ o. Some (unwrap_or o empty)) is
 
   node_taken : (j : ℕ) → slice_get placed.kinds j ≡ Some false → (id : NodeId) × (p : NodeRow) × (slice_get elems j ≡ Some (Node id)) × (node_at g id ≡ Some p) × (can_stand_node resolved p ≡ true)
   node_taken j kind =
-      let one = elem_there placed.kinds elems j false there kind in
+      let one = elem_there g placed.kinds elems j false there kind in
       let listed = node_listed one.0 g.nodes one.2 in
       (listed.0, listed.1, one.1 ∙ ap Some listed.2, listed.3, found_passes (can_stand_node resolved) (is_at (node_cmp listed.0)) g.nodes listed.1 standing.nodes listed.3)
 
   edge_taken : (j : ℕ) → slice_get placed.kinds j ≡ Some true →
       (id : EdgeId) × (row : EdgeRow) × (t : PairTriple) × (slice_get elems j ≡ Some (Edge id)) × (edge_at g id ≡ Some row) × (triple_at g row ≡ Some t) × (can_stand_edge resolved t ≡ true)
   edge_taken j kind =
-      let one = elem_there placed.kinds elems j true there kind in
+      let one = elem_there g placed.kinds elems j true there kind in
       let listed = edge_listed one.0 g.edges one.2 in
       let passes = found_passes (λ (row : EdgeRow). option_map_or (can_stand_edge resolved) (triple_at g row) false) (is_at (edge_cmp listed.0)) g.edges listed.1 standing.edges listed.3 in
       let t = some_passes (triple_at g listed.1) (can_stand_edge resolved) passes in
@@ -190,7 +211,7 @@ module _ (resolved : Resolved) (placed : Placed) (ok : IsPlaced placed) (g : Gra
   triple_taken j id row t kind at is ends =
       let ways = led g (slice_get elems j) (slice_get elems (ends_of placed.atoms j).0) (slice_get elems (ends_of placed.atoms j).1)
       (ends_led resolved g elems j placed.atoms (ok.ends j kind).2 hold) in
-      let own : ways.id ≡ id = one_edge ways.id id (sym ways.edge_is ∙ at) in
+      let own : ways.id ≡ id = same_some_edge ways.id id (sym ways.edge_is ∙ at) in
       let same : ways.row ≡ row = same_Some ways.row row (sym ways.row_is ∙ ap (edge_at g) own ∙ is) in
       let nodes = and_parts (ways.row.source.0 == ways.from.0) (ways.row.target.0 == ways.to.0) ways.ends_are in
       let source = then_some _ (node_at g row.source) t ends in
@@ -202,9 +223,6 @@ module _ (resolved : Resolved) (placed : Placed) (ok : IsPlaced placed) (g : Gra
             (ap (node_at g) (one_node ways.to row.target (sym (eqb-true ways.row.target.0 ways.to.0 nodes.1) ∙ ap (λ (r : EdgeRow). r.target.0) same)) ∙ target.1 ∙ ap (λ (u : PairTriple). Some u.target) target.2),
       )
     where
-      one_edge : (a b : EdgeId) → Some (Edge a) ≡ Some (Edge b) → a ≡ b
-      one_edge a b e = cc
-
       one_node : (a b : NodeId) → a.0 ≡ b.0 → a ≡ b
       one_node a b e = ap (λ n. record { 0 = n }) e
 
@@ -222,15 +240,15 @@ module _ (resolved : Resolved) (placed : Placed) (ok : IsPlaced placed) (g : Gra
       stand_from resolved placed.atoms taken i kinds ≡ true
   stand_taken [] i each = refl
   stand_taken (true ∷ kinds) i each =
-      let kind = sym (ap (slice_get placed.kinds) (let e : i + 0 ≡ i = omega arith in e)) ∙ each 0 true refl in
+      let kind = sym (ap (slice_get placed.kinds) (at_start i)) ∙ each 0 true refl in
       let one = edge_taken i kind in
       and_from _ _ (pass_three i (ends_of placed.atoms i) one.2 (can_stand_edge resolved) (triple_taken i one.0 one.1 one.2 kind one.3 one.4 one.5) one.6)
-      (stand_taken kinds (i + 1) (λ j k at. sym (ap (slice_get placed.kinds) (let e : i + suc j ≡ (i + 1) + j = omega arith in e)) ∙ each (suc j) k at))
+      (stand_taken kinds (i + 1) (λ j k at. sym (ap (slice_get placed.kinds) (one_behind i j)) ∙ each (suc j) k at))
   stand_taken (false ∷ kinds) i each =
-      let kind = sym (ap (slice_get placed.kinds) (let e : i + 0 ≡ i = omega arith in e)) ∙ each 0 false refl in
+      let kind = sym (ap (slice_get placed.kinds) (at_start i)) ∙ each 0 false refl in
       let one = node_taken i kind in
       and_from _ _ (pass_one i one.1 (can_stand_node resolved) (stood i (Node one.0) one.1 one.2 one.3) one.4)
-      (stand_taken kinds (i + 1) (λ j k at. sym (ap (slice_get placed.kinds) (let e : i + suc j ≡ (i + 1) + j = omega arith in e)) ∙ each (suc j) k at))
+      (stand_taken kinds (i + 1) (λ j k at. sym (ap (slice_get placed.kinds) (one_behind i j)) ∙ each (suc j) k at))
 
   carried_taken : (j : ℕ) (test : NodeRow → Bool) → carries g elems j test ≡ true → passes_at taken j test ≡ true
   carried_taken j test h =
@@ -305,13 +323,7 @@ module _ (resolved : Resolved) (placed : Placed) (ok : IsPlaced placed) (g : Gra
 
   -- as many pairs as places
   pub taken_count : length taken ≡ length placed.kinds
-  taken_count = length-map elems row_of ∙ count placed.kinds elems there
-    where
-      count : (kinds : List Bool) (es : List Elem) → are_there g kinds es ≡ true → length es ≡ length kinds
-      count [] [] h = refl
-      count [] (e ∷ es) h = absurd (true≢false (sym h))
-      count (k ∷ kinds) [] h = absurd (true≢false (sym h))
-      count (k ∷ kinds) (e ∷ es) h = let rest : length es ≡ length kinds = count kinds es (and_parts (list_any (same_elem e) (elements g k)) (are_there g kinds es) h).1 in omega arith
+  taken_count = length-map elems row_of ∙ counted g placed.kinds elems there
 
   pub taken_pairs : list_all is_pair taken ≡ true
   taken_pairs = each elems

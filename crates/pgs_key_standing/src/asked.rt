@@ -1,8 +1,12 @@
 //! What a placed pattern asks, as demands: of each place, and of the three places of an edge.
 
-ghost use Rattle.std.specs.Prelude.{◌≡◌, ◌≤◌, Bool, true, List as Items, length, IfOk, OnOk};
+ghost use Rattle.std.specs.Prelude.{◌≡◌, ◌<◌, ◌≤◌, Bool, false, true, List as Items, length, IfOk, OnOk};
 ghost use Rattle.std.specs.List.{list_all};
 ghost use Rattle.pgs_base.specs.declared.row.NodeRow.{NodeRow};
+ghost use Rattle.std.specs.Option.{option_map_or};
+ghost use Rattle.pgs_base.specs.Pair.{has_name, value_at};
+ghost use Rattle.pgs_base.specs.Value.{is_of_kind};
+ghost use Rattle.pgs_syntax.specs.Fitting.{fits_node, fits_edge};
 ghost use Rattle.pgs_syntax.specs.Join.{PairTriple};
 ghost use Rattle.pgs_syntax.specs.Valid.{names_types};
 ghost use Rattle.pgs_conform.specs.Shapes.{Denotes, DenotesTriples};
@@ -14,7 +18,7 @@ ghost use Rattle.pgs_key_standing.specs.Placed.{passes_at, pass_at, asks_present
 use crate::joint::ends_of;
 use crate::shapes::{labelled, of_kind, present};
 use crate::{Demand, Placed};
-use pgs_base::{List, Memory};
+use pgs_base::{Kind, List, Memory, Name};
 use pgs_conform::{Compiled, Shape, Triple};
 use pgs_product::{copy_shapes, copy_triples};
 use pgs_standing::{standing_shapes, standing_triples};
@@ -50,6 +54,65 @@ fn push_three(
     Ok(())
 }
 
+// Puts last that a place has a label.
+fn push_label(
+    alloc: Global,
+    place: u32,
+    label: &Name,
+    demands: &mut Vec<Demand>,
+) -> Result<(), Memory>
+    ensures { OnOk result (Adds demands.old.items demands.new.items (λ ps. passes_at ps place (λ p. has_name label.now p.labels))) }
+{
+    let shapes = labelled(alloc, label)?;
+    push_at(place, shapes, demands)
+}
+
+// Puts last that a place fits a node type.
+fn push_node_type(
+    alloc: Global,
+    schema: &Compiled,
+    place: u32,
+    number: u32,
+    demands: &mut Vec<Demand>,
+) -> Result<(), Memory>
+    requires { number < length schema.now.nodes }
+    ensures { OnOk result (Adds demands.old.items demands.new.items (λ ps. passes_at ps place (fits_node schema.now number))) }
+{
+    let shapes = copy_shapes(alloc, schema.shapes_of_node(number).as_slice())?;
+    push_at(place, shapes, demands)
+}
+
+// Puts last that an edge and its ends fit an edge type.
+fn push_edge_type(
+    alloc: Global,
+    schema: &Compiled,
+    edge: u32,
+    ends: (u32, u32),
+    number: u32,
+    demands: &mut Vec<Demand>,
+) -> Result<(), Memory>
+    requires { number < length schema.now.edges }
+    ensures { OnOk result (Adds demands.old.items demands.new.items (λ ps. pass_at ps edge ends (fits_edge schema.now number))) }
+{
+    let triples = copy_triples(alloc, schema.shapes_of_edge(number).as_slice())?;
+    push_three(edge, ends, triples, demands)
+}
+
+// Puts last that a place has a value of a kind at a key.
+fn push_kind(
+    alloc: Global,
+    place: u32,
+    key: &Name,
+    kind: Kind,
+    demands: &mut Vec<Demand>,
+) -> Result<(), Memory>
+    ensures { OnOk result (Adds demands.old.items demands.new.items
+        (λ ps. passes_at ps place (λ p. option_map_or (is_of_kind kind) (value_at key.now p.props) false))) }
+{
+    let shapes = of_kind(alloc, key, kind)?;
+    push_at(place, shapes, demands)
+}
+
 // Puts last what an atom asks, but for its value.
 fn push_atom(
     alloc: Global,
@@ -63,22 +126,12 @@ fn push_atom(
 {
     match atom {
         Atom::Ends { .. } => Ok(()),
-        Atom::HasLabel { var, label } => {
-            let shapes = labelled(alloc, label)?;
-            push_at(*var, shapes, demands)
-        }
-        Atom::FitsNode { var, number } => {
-            let shapes = copy_shapes(alloc, schema.shapes_of_node(*number).as_slice())?;
-            push_at(*var, shapes, demands)
-        }
+        Atom::HasLabel { var, label } => push_label(alloc, *var, label, demands),
+        Atom::FitsNode { var, number } => push_node_type(alloc, schema, *var, *number, demands),
         Atom::FitsEdge { var, number } => {
-            let triples = copy_triples(alloc, schema.shapes_of_edge(*number).as_slice())?;
-            push_three(*var, ends_of(all, *var), triples, demands)
+            push_edge_type(alloc, schema, *var, ends_of(all, *var), *number, demands)
         }
-        Atom::Equals { var, key, value } => {
-            let shapes = of_kind(alloc, key, value.kind())?;
-            push_at(*var, shapes, demands)
-        }
+        Atom::Equals { var, key, value } => push_kind(alloc, *var, key, value.kind(), demands),
     }
 }
 
@@ -192,8 +245,25 @@ fn push_standing(
     Ok(())
 }
 
-/// What a placed pattern asks, but for values, and that what is at its places can stand: first what is asked of single places, so that
-/// little is left to try. `Memory` where there was none left.
+// Puts last what a placed pattern asks, but for values, and that what is at its places can stand: first what is asked of single places,
+// so that little is left to try.
+fn push_demands(
+    alloc: Global,
+    schema: &Compiled,
+    placed: &Placed,
+    demands: &mut Vec<Demand>,
+) -> Result<(), Memory>
+    requires types { list_all (names_types schema.now) placed.now.atoms ≡ true }
+    requires few { length placed.now.kinds ≤ 42 }
+    ensures { OnOk result (Adds demands.old.items demands.new.items (ask_kinds schema.now placed.now)) }
+{
+    let all = placed.atoms.as_slice();
+    push_atoms(alloc, schema, all, demands)?;
+    push_exprs(alloc, placed.exprs.as_slice(), demands)?;
+    push_standing(alloc, schema, all, placed.kinds.as_slice(), demands)
+}
+
+/// What a placed pattern asks, but for values, and that what is at its places can stand. `Memory` where there was none left.
 pub(crate) fn demands_of(
     alloc: Global,
     schema: &Compiled,
@@ -204,9 +274,6 @@ pub(crate) fn demands_of(
     ensures { IfOk result (λ demands. (ps : Items NodeRow) → are_small ps ≡ true → list_all (meets ps) demands.items ≡ ask_kinds schema.now placed.now ps) }
 {
     let mut demands = Vec::new(alloc);
-    let all = placed.atoms.as_slice();
-    push_atoms(alloc, schema, all, &mut demands)?;
-    push_exprs(alloc, placed.exprs.as_slice(), &mut demands)?;
-    push_standing(alloc, schema, all, placed.kinds.as_slice(), &mut demands)?;
+    push_demands(alloc, schema, placed, &mut demands)?;
     Ok(demands)
 }

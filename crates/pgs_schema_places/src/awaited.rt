@@ -1,6 +1,6 @@
 //! What might stand where a statement doesn't go on, as a text.
 
-ghost use Rattle.std.specs.Prelude.{◌≡◌, ◌++◌, IfOk};
+ghost use Rattle.std.specs.Prelude.{◌≡◌, ◌++◌, codes, IfOk};
 ghost use Rattle.pgs_lexer.specs.Form.{is_line};
 ghost use Rattle.pgs_schema_places.specs.Because.{AreOthers};
 
@@ -53,6 +53,16 @@ pub(crate) fn no_others(alloc: Global) -> Bytes
     List::new(alloc)
 }
 
+// Words as they are said behind what a place has.
+fn in_place_of(alloc: Global, words: &[u8]) -> Result<Bytes, Memory>
+    ensures { IfOk result (λ text. text ≡ codes " in place of " ++ words.now) }
+{
+    let mut text = TextBuffer::with_room(alloc, ROOM)?;
+    text.push(b" in place of ")?;
+    text.push(words)?;
+    Ok(text.into_bytes())
+}
+
 /// What might stand behind the tokens that were read, as the end of a line; nothing where that is unknown.
 pub(crate) fn others_text(
     alloc: Global,
@@ -66,8 +76,6 @@ pub(crate) fn others_text(
     if words.is_empty() || !is_line(words.as_slice()) {
         return Ok(no_others(alloc));
     }
-    let mut text = TextBuffer::with_room(alloc, ROOM)?;
-    text.push(b" in place of ")?;
-    text.push(words.as_slice())?;
-    Ok(text.into_bytes())
+    let text = in_place_of(alloc, words.as_slice())?;
+    Ok(text)
 }

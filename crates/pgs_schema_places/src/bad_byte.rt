@@ -1,7 +1,7 @@
 //! Where the first byte stands that begins no item. The lexer tells its line alone, and which fronts of a line are cut into items; what an
 //! item is stands there.
 
-use pgs_base::{Memory, TEXT_LIMIT};
+use pgs_base::{Bytes, Memory, TEXT_LIMIT};
 use pgs_base_text::TextBuffer;
 use pgs_lexer::{LexFault, Tokens, lex};
 use std::alloc::Global;
@@ -29,12 +29,17 @@ fn last_of(tokens: &Tokens<'_>) -> (usize, usize) {
     }
 }
 
-// A front of a line with this end, where that is cut into items.
-fn front_with(alloc: Global, front: &[u8], end: &[u8]) -> Result<Option<Front>, Memory> {
+// A front of a line with an end behind it.
+fn joined(alloc: Global, front: &[u8], end: &[u8]) -> Result<Bytes, Memory> {
     let mut text = TextBuffer::with_room(alloc, front.len().saturating_add(end.len()))?;
     text.push(front)?;
     text.push(end)?;
-    let text = text.into_bytes();
+    Ok(text.into_bytes())
+}
+
+// A front of a line with this end, where that is cut into items.
+fn front_with(alloc: Global, front: &[u8], end: &[u8]) -> Result<Option<Front>, Memory> {
+    let text = joined(alloc, front, end)?;
     if text.len() > TEXT_LIMIT {
         return Ok(None);
     }

@@ -143,6 +143,21 @@ fn byte_line(alloc: Global, text: &[u8], place: usize) -> Result<Option<Bytes>, 
     }
 }
 
+// What might stand where a refusal is, which is told of a statement that is none alone.
+fn others_of(
+    alloc: Global,
+    reading: &Reading,
+    tokens: &Tokens<'_>,
+    refusal: &Refusal<'_>,
+) -> Result<Bytes, Memory>
+    ensures { IfOk result AreOthers }
+{
+    match refusal {
+        Refusal::NoStatement => others_text(alloc, reading, tokens),
+        _ => Ok(no_others(alloc)),
+    }
+}
+
 // The line of the cause of a refusal of a text that has tokens.
 fn line_by_tokens(
     alloc: Global,
@@ -154,10 +169,7 @@ fn line_by_tokens(
     ensures { IfOk result (λ line. IfSome line (IsBecause text.now)) }
 {
     let reading = Reading::of(alloc, tokens)?;
-    let others = match refusal {
-        Refusal::NoStatement => others_text(alloc, &reading, tokens)?,
-        _ => no_others(alloc),
-    };
+    let others = others_of(alloc, &reading, tokens, refusal)?;
     match token_place(alloc, tokens, &reading, refusal)? {
         Some(place) => token_line(alloc, text, tokens, place, others.as_slice()),
         None => Ok(None),

@@ -44,7 +44,7 @@ pub(crate) enum Symbol {
 }
 
 /// The parts of the grammar. Each is named by what it is, or by what it stands behind.
-#[derive(Clone, Copy, PartialEq, Eq)]
+#[derive(Clone, Copy)]
 pub(crate) enum Part {
     Script,
     Created,

@@ -3,9 +3,10 @@
 ghost use Rattle.std.specs.Prelude.{◌≡◌, ◌++◌, ◌==◌, map, flat_map, IfOk, OnOk};
 ghost use Rattle.std.specs.List.{position};
 ghost use Rattle.pgs_syntax.specs.declared.script.Script.{Script};
+ghost use Rattle.pgs_resolve_declared.specs.Declarations.{keys_of};
 ghost use Rattle.pgs_resolve_declared.specs.Tables.{AreOf};
 ghost use Rattle.pgs_schema_places.specs.KeyParts.{parts_at, guard_part_texts};
-ghost use Rattle.pgs_schema_places.specs.KeyTexts.{text_at, place_of, guard_key_texts};
+ghost use Rattle.pgs_schema_places.specs.KeyTexts.{text_at, place_of, guard_keys, guard_key_texts};
 
 use crate::parts::{PartTexts, key_part_texts};
 use crate::texts::key_texts;
@@ -71,6 +72,21 @@ fn texts_at(
     Ok(List::from_vec(found))
 }
 
+// The places of the keys of a script, in order.
+fn script_places(alloc: Global, declarations: &Declarations<'_>) -> Result<Vec<u32>, Memory>
+    ensures { (script : Script) → AreOf script declarations.now → IfOk result (λ places. places.items ≡ map place_of (keys_of script)) }
+{
+    places_of(alloc, &declarations.graphs)
+}
+
+// The places of the guard's keys, in the order in which they are numbered.
+fn guard_places(alloc: Global, declarations: &Declarations<'_>) -> Result<Vec<u32>, Memory>
+    ensures { (script : Script) → AreOf script declarations.now → IfOk result (λ places. places.items ≡ map place_of (guard_keys script)) }
+{
+    let graphs = guard_graphs(alloc, declarations)?;
+    places_of(alloc, &graphs)
+}
+
 /// The texts of the guard's keys, in the order in which they are numbered.
 pub fn guard_key_texts(
     alloc: Global,
@@ -80,9 +96,8 @@ pub fn guard_key_texts(
     ensures { (script : Script) → AreOf script declarations.now → IfOk result (λ texts. texts ≡ guard_key_texts tokens.now script) }
 {
     let texts = key_texts(alloc, tokens)?;
-    let places = places_of(alloc, &declarations.graphs)?;
-    let graphs = guard_graphs(alloc, declarations)?;
-    let wanted = places_of(alloc, &graphs)?;
+    let places = script_places(alloc, declarations)?;
+    let wanted = guard_places(alloc, declarations)?;
     texts_at(alloc, &places, texts.as_slice(), &wanted)
 }
 
@@ -134,8 +149,7 @@ pub fn guard_part_texts(
     ensures { (script : Script) → AreOf script declarations.now → IfOk result (λ texts. texts ≡ guard_part_texts tokens.now script) }
 {
     let parts = key_part_texts(alloc, tokens)?;
-    let places = places_of(alloc, &declarations.graphs)?;
-    let graphs = guard_graphs(alloc, declarations)?;
-    let wanted = places_of(alloc, &graphs)?;
+    let places = script_places(alloc, declarations)?;
+    let wanted = guard_places(alloc, declarations)?;
     all_parts_at(alloc, &places, &parts, &wanted)
 }

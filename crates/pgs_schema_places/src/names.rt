@@ -73,6 +73,21 @@ fn push_imports(
     Ok(())
 }
 
+// Puts the graph types last that those import which are there, one after another.
+fn push_later_imports(
+    tokens: &Tokens<'_>,
+    roles: &[Role],
+    reached: &mut Vec<usize>,
+) -> Result<(), Memory> {
+    for number in 0..tokens.len() {
+        let Some(next) = reached.get(number).copied() else {
+            return Ok(());
+        };
+        push_imports(tokens, roles, next, reached)?;
+    }
+    Ok(())
+}
+
 /// Whether a graph type, by the place of its name, imports itself, also through others.
 pub(crate) fn imports_itself(
     alloc: Global,
@@ -82,11 +97,6 @@ pub(crate) fn imports_itself(
 ) -> Result<bool, Memory> {
     let mut reached = Vec::new(alloc);
     push_imports(tokens, roles, graph, &mut reached)?;
-    for number in 0..tokens.len() {
-        match reached.get(number).copied() {
-            Some(next) => push_imports(tokens, roles, next, &mut reached)?,
-            None => return Ok(reached.contains(&graph)),
-        }
-    }
+    push_later_imports(tokens, roles, &mut reached)?;
     Ok(reached.contains(&graph))
 }

@@ -94,18 +94,28 @@ fn may_be_left_out(symbol: Symbol) -> bool {
 }
 
 impl Reading {
-    /// Reads the tokens of a text.
-    pub(crate) fn of(alloc: Global, tokens: &Tokens<'_>) -> Result<Reading, Memory> {
-        let mut reading = Reading {
-            awaited: Vec::new(alloc),
-            roles: Vec::new(alloc),
-        };
-        reading.awaited.push(Symbol::Then(Part::Script))?;
+    // Before the first token.
+    fn start(alloc: Global) -> Result<Reading, Memory> {
+        let mut awaited = Vec::new(alloc);
+        awaited.push(Symbol::Then(Part::Script))?;
+        let roles = Vec::new(alloc);
+        Ok(Reading { awaited, roles })
+    }
+
+    // Reads tokens up to the first with which no script goes on.
+    fn take_all(&mut self, tokens: &Tokens<'_>) -> Result<(), Memory> {
         for place in 0..tokens.len() {
-            if !reading.takes(tokens, place)? {
-                return Ok(reading);
+            if !self.takes(tokens, place)? {
+                return Ok(());
             }
         }
+        Ok(())
+    }
+
+    /// Reads the tokens of a text.
+    pub(crate) fn of(alloc: Global, tokens: &Tokens<'_>) -> Result<Reading, Memory> {
+        let mut reading = Reading::start(alloc)?;
+        reading.take_all(tokens)?;
         Ok(reading)
     }
 
@@ -141,7 +151,7 @@ impl Reading {
     // Whether a form of a part that begins so may stand at a place: in labels not one parenthesis too many, and no qualifier again.
     fn may_stand(&self, part: Part, first: Symbol, tokens: &Tokens<'_>, place: usize) -> bool {
         match first {
-            Symbol::Word(b"(") => part != Part::Unit || !self.is_deepest(),
+            Symbol::Word(b"(") => !matches!(part, Part::Unit) || !self.is_deepest(),
             Symbol::Once(word) => !is_asked_before(tokens, place, word),
             _ => true,
         }
