@@ -219,11 +219,12 @@ module _ (it : SavedStore) (input : List ℕ) (lost : ℕ) where
   -- all that lines tell, from what some first ones tell
   more_told : (until more : List (List ℕ)) → all_lines input ≡ until ++ more → (rest : List (List ℕ)) × (all_told ≡ verdicts it until ++ rest)
   more_told until more parts =
-      let behind = pieces_of_lines every_verdict (verdict it.schema) (after it until) more in
-      (behind ++ lost_pieces lost,
-      ap (λ (lines : List (List ℕ)). verdicts it lines ++ lost_pieces lost) parts
-      ∙ ap (λ (pieces : List (List ℕ)). pieces ++ lost_pieces lost) (pieces_of_lines-append every_verdict (verdict it.schema) (start it) until more)
-      ∙ append_assoc (verdicts it until) behind (lost_pieces lost))
+      let behind = pieces_of_lines every_verdict (verdict it.schema) (after it until) more in (
+        behind ++ lost_pieces lost,
+        ap (λ (lines : List (List ℕ)). verdicts it lines ++ lost_pieces lost) parts
+            ∙ ap (λ (pieces : List (List ℕ)). pieces ++ lost_pieces lost) (pieces_of_lines-append every_verdict (verdict it.schema) (start it) until more)
+            ∙ append_assoc (verdicts it until) behind (lost_pieces lost),
+      )
 
   whole_told : (refused : Bool) → all_told ≡ (verdicts it (all_lines input) ++ pieces_in (last_piece (status_after refused) lost)) ++ []
   whole_told true = sym (append-nil all_told)
