@@ -27,7 +27,7 @@ use Rattle.pgs_command.specs.declared.status.Status.TheVariants.{Accepted, Refus
 use Rattle.pgs_run_input.specs.Answers.{schema_answer}
 use Rattle.pgs_run_input.specs.Session.{every_verdict, pieces_of_lines, standard}
 use Rattle.pgs_run_input.proofs.Following.{pieces_of_lines-append}
-use Rattle.pgs_command.specs.Areas.{Areas, areas_of}
+use Rattle.pgs_command.specs.Areas.{areas_of}
 use Rattle.pgs_command.specs.Ending.{Ends}
 use Rattle.pgs_command.specs.Images.{KeepsImages}
 use Rattle.pgs_command.specs.Promise.{IsUnbegun, Knows, Promise, Runs}
@@ -37,17 +37,16 @@ use Rattle.pgs_command.specs.Words.{refused_words}
 use Rattle.pgs_run_apply.specs.Run.{IsDecided, IsPutBy, Saves}
 use Rattle.pgs_run_apply.specs.Told.{after, all_lines, last_piece, lost_pieces, start, status_after, told_apply, told_lines, verdicts, with_last}
 use Rattle.pgs_run_checkpoint.specs.Told.{told_by, told_checkpoint}
-use Rattle.pgs_run_evolve.specs.Evolving.{IsRenewed as IsEvolved}
-use Rattle.pgs_run_evolve.specs.Leaving.{IsConforming, kept_of}
+use Rattle.pgs_run_evolve.specs.Leaving.{IsConforming}
 use Rattle.pgs_run_evolve.specs.Leaving.{IsMade as MadeAt}
 use Rattle.pgs_run_evolve.specs.Told.{told_evolve, told_input}
-use Rattle.pgs_run_load.specs.Loading.{IsMade, IsNewStore}
+use Rattle.pgs_run_load.specs.Loading.{IsMade}
 use Rattle.pgs_run_load.specs.Told.{told_choice, told_load}
 use Rattle.pgs_run_store.specs.Dump.{told_dump}
 use Rattle.pgs_run_store.specs.Refusing.{SavedStore, store_refused, told_of_areas, told_saved, told_under}
 use Rattle.pgs_run.specs.Commands.{spec_named, spec_of}
 use Rattle.pgs_run_laws.specs.Crashes.{RanInto, Stands, after_lines}
-use Rattle.pgs_run_laws.specs.Endings.{AddUp, DoesTo, Done, Held, Holding, Holds, IsAppliedTo, IsOut, Leads, LeadsBy, LeadsTo, Loaded, Misread, Misreads, Nothing, RanTo, Recovered, RunAll, ShowsButLast, Step, evolved_to, loaded_of, loaded_to, told_done, told_step}
+use Rattle.pgs_run_laws.specs.Endings.{AddUp, DoesTo, Done, Held, Holding, Holds, IsAppliedTo, IsOut, Leads, LeadsTo, Loaded, Misread, Misreads, Nothing, RanTo, Recovered, RunAll, ShowsButLast, Step, evolved_to, loaded_of, loaded_to, told_step}
 use Rattle.pgs_run_laws.specs.Sequence.{Applied, Deed, Evolved, Renewed, under_text, under_verdict}
 use Rattle.pgs_run_laws.proofs.AddUp.{same_epoch, told_evolved, told_renewed, told_stands}
 use Rattle.pgs_run_laws.proofs.Crashed.{none_or_store, none_saved}

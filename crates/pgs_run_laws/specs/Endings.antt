@@ -16,7 +16,7 @@ use Rattle.pgs_run_words.specs.declared.command.Command.TheVariants.{Apply, Chec
 use Rattle.pgs_run_words.specs.Words.{command_of}
 use Rattle.pgs_world.specs.World.{View}
 use Rattle.pgs_command.specs.declared.status.Status.{Status}
-use Rattle.pgs_command.specs.declared.status.Status.TheVariants.{Accepted, Refused, BadWords, SchemaRefused, StoreRefused, DiskFault, ReadFault, PutFault, Memory, InputTooLong}
+use Rattle.pgs_command.specs.declared.status.Status.TheVariants.{Accepted, Refused, BadWords, SchemaRefused, StoreRefused, DiskFault, PutFault, InputTooLong}
 use Rattle.pgs_command.specs.Ending.{Ends}
 use Rattle.pgs_command.specs.Promise.{Runs}
 use Rattle.pgs_command.specs.Setting.{SourceState}
