@@ -15,7 +15,9 @@ pub mod Head
 pub mod Joined
 pub mod Laws
 pub mod Named
+pub mod NamedLaws
 pub mod Opened
 pub mod Rewriting
 pub mod Stops
+pub mod StoreLaws
 pub mod SystemFiles

@@ -62,11 +62,11 @@ impl<F: NamedFile> StoreFile<F> {
     }
 
     // An error where the open file isn't as long as this run knows.
-    fn check_length(&mut self) -> io::Result<()>
-        ensures stands { LengthStands F.length_gives self.old.known self.old.file (is_ok result) self.new.file }
+    fn check_length(&mut self, moment: u64) -> io::Result<()>
+        ensures stands { LengthStands (F.length_gives moment) self.old.known self.old.file (is_ok result) self.new.file }
         ensures same { KnowsTheSame self.old self.new }
     {
-        let len = self.file.ask_length()?;
+        let len = self.file.ask_length(moment)?;
         if len == self.known {
             return Ok(());
         }
@@ -87,37 +87,37 @@ impl<F: NamedFile> StoreFile<F> {
     // as written though the disk has older bytes: the next sync would succeed without writing it, and a later run would build on what
     // isn't there. Now the next sync has to write all. A stop here changes nothing, and what isn't in memory needs nothing: so a read or
     // a write that fails is passed over.
-    fn write_again(&mut self)
-        ensures rewritten { IsRewritten F.reopen_gives F.length_gives F.read_gives F.write_gives self.old.file self.new.file }
+    fn write_again(&mut self, moment: u64)
+        ensures rewritten { IsRewritten (F.reopen_gives moment) (F.length_gives moment) (F.read_gives moment) (F.write_gives moment) self.old.file self.new.file }
         ensures same { KnowsTheSame self.old self.new }
     {
-        self.file.open_to_write();
-        if let Ok(len) = self.file.ask_length() {
-            rewrite_blocks(&mut self.file, len);
+        self.file.open_to_write(moment);
+        if let Ok(len) = self.file.ask_length(moment) {
+            rewrite_blocks(&mut self.file, moment, len);
         }
     }
 
     // Looks at the file behind a sync that succeeded. Where all that was written stands behind the end that the file had, that is left to the
     // sync of the write that makes it a part of the store.
-    fn look(&mut self) -> io::Result<()>
-        ensures looked { OnOk result (IsLookedAt F.name_gives self.old.unsynced self.old.known self.old.file self.new.file) }
-        ensures failed { OnErr result (F.name_gives self.old.file self.old.known false self.new.file) }
+    fn look(&mut self, moment: u64) -> io::Result<()>
+        ensures looked { OnOk result (IsLookedAt (F.name_gives moment) self.old.unsynced self.old.known self.old.file self.new.file) }
+        ensures failed { OnErr result (F.name_gives moment self.old.file self.old.known false self.new.file) }
         ensures same { KnowsTheSame self.old self.new }
     {
         match self.unsynced {
             Unsynced::BehindEnd => Ok(()),
-            Unsynced::Nothing | Unsynced::Within => self.file.check_name(self.known),
+            Unsynced::Nothing | Unsynced::Within => self.file.check_name(moment, self.known),
         }
     }
 
     // The same, and then everything is synced.
-    fn look_synced(&mut self) -> io::Result<()>
-        ensures looked { OnOk result (IsLookedAt F.name_gives self.old.unsynced self.old.known self.old.file self.new.file) }
+    fn look_synced(&mut self, moment: u64) -> io::Result<()>
+        ensures looked { OnOk result (IsLookedAt (F.name_gives moment) self.old.unsynced self.old.known self.old.file self.new.file) }
         ensures synced { OnOk result ((self.new.known ≡ self.old.known) × (self.new.unsynced ≡ Nothing)) }
-        ensures failed { OnErr result (F.name_gives self.old.file self.old.known false self.new.file) }
+        ensures failed { OnErr result (F.name_gives moment self.old.file self.old.known false self.new.file) }
         ensures same { OnErr result (KnowsTheSame self.old self.new) }
     {
-        match self.look() {
+        match self.look(moment) {
             Ok(()) => {
                 self.unsynced = Unsynced::Nothing;
                 Ok(())
@@ -127,12 +127,12 @@ impl<F: NamedFile> StoreFile<F> {
     }
 
     // Writes once, and knows how far the file reaches then.
-    fn write_known(&mut self, at: u64, bytes: &[u8]) -> io::Result<usize>
+    fn write_known(&mut self, moment: u64, at: u64, bytes: &[u8]) -> io::Result<usize>
         ensures bound { WritesAtMost result bytes.now }
-        ensures written { F.write_gives self.old.file at bytes.now result self.new.file }
+        ensures written { F.write_gives moment self.old.file at bytes.now result self.new.file }
         ensures known { KnowsOfWrite self.old at result self.new }
     {
-        match self.file.write_from(at, bytes) {
+        match self.file.write_from(moment, at, bytes) {
             Ok(count) => {
                 self.know_write(at, count);
                 Ok(count)
@@ -142,12 +142,12 @@ impl<F: NamedFile> StoreFile<F> {
     }
 
     // Cuts the file, and knows how long it is then.
-    fn cut_known(&mut self, len: u64) -> io::Result<()>
-        ensures cut { F.cut_gives self.old.file len (is_ok result) self.new.file }
+    fn cut_known(&mut self, moment: u64, len: u64) -> io::Result<()>
+        ensures cut { F.cut_gives moment self.old.file len (is_ok result) self.new.file }
         ensures known { OnOk result ((self.new.known ≡ len) × (self.new.unsynced ≡ Within)) }
         ensures same { OnErr result (KnowsTheSame self.old self.new) }
     {
-        match self.file.cut_to(len) {
+        match self.file.cut_to(moment, len) {
             Ok(()) => {
                 self.known = len;
                 self.unsynced = Unsynced::Within;
@@ -158,75 +158,86 @@ impl<F: NamedFile> StoreFile<F> {
     }
 }
 // Writes one byte of each block of a file of this length again.
-fn rewrite_blocks<F: NamedFile>(file: &mut F, len: u64)
-    ensures { HasRewritten F.read_gives F.write_gives file.old (div_ceil len BLOCK) file.new }
+fn rewrite_blocks<F: NamedFile>(file: &mut F, moment: u64, len: u64)
+    ensures { HasRewritten (F.read_gives moment) (F.write_gives moment) file.old (div_ceil len BLOCK) file.new }
 {
     for block in 0..len.div_ceil(BLOCK) {
-        rewrite_byte(file, block.saturating_mul(BLOCK));
+        rewrite_byte(file, moment, block.saturating_mul(BLOCK));
     }
 }
 
 // Writes the byte at a place again, if it can be read.
-fn rewrite_byte<F: NamedFile>(file: &mut F, at: u64)
-    ensures { IsByteRewritten F.read_gives F.write_gives file.old at file.new }
+fn rewrite_byte<F: NamedFile>(file: &mut F, moment: u64, at: u64)
+    ensures { IsByteRewritten (F.read_gives moment) (F.write_gives moment) file.old at file.new }
 {
     let mut byte = [0];
-    let Ok(count) = file.read_from(at, &mut byte) else {
+    let Ok(count) = file.read_from(moment, at, &mut byte) else {
         return;
     };
     if count == 1 {
-        let _passed_over = file.write_from(at, &byte);
+        let _passed_over = file.write_from(moment, at, &byte);
     }
 }
 
 impl<F: NamedFile> Handle for StoreFile<F> {
-    ghost use Rattle.pgs_world_files.specs.Named.{IsCut, IsWritten, KnowsTheSame, SyncIs, tells_nothing};
+    ghost use Rattle.pgs_world_files.specs.Named.{IsCut, IsWritten, KnowsTheSame, SyncIs};
+    ghost use Rattle.pgs_world_files.specs.StoreLaws.{store_over, store_stops};
 
-    ghost over = { tells_nothing };
+    ghost tells = { F.tells };
 
-    ghost stops = { tells_nothing };
+    ghost contents = { λ store. F.contents store.file };
 
-    ghost length_gives = { λ moment old answer new. F.length_gives old.file answer new.file × KnowsTheSame old new };
+    ghost tells_stops = { F.tells_stops };
 
-    ghost read_gives = { λ moment old at buf answer new. F.read_gives old.file at buf answer new.file × KnowsTheSame old new };
+    ghost past = { λ store. F.past store.file };
 
-    ghost write_gives = { λ moment. IsWritten F.length_gives F.write_gives };
+    ghost over = { λ tells moment. store_over F.contents (F.length_gives moment) (F.read_gives moment) (F.write_gives moment) (F.cut_gives moment) (F.sync_gives moment)
+        (F.name_gives moment) (F.reopen_gives moment) (F.over tells moment) };
 
-    ghost cut_gives = { λ moment. IsCut F.length_gives F.cut_gives };
+    ghost stops = { λ tells. store_stops F.contents F.past F.length_gives F.read_gives F.write_gives F.cut_gives F.sync_gives F.name_gives F.reopen_gives
+        (F.stops tells) };
 
-    ghost sync_gives = { λ moment. SyncIs F.sync_gives F.name_gives F.reopen_gives F.length_gives F.read_gives F.write_gives };
+    ghost length_gives = { λ moment old answer new. F.length_gives moment old.file answer new.file × KnowsTheSame old new };
+
+    ghost read_gives = { λ moment old at buf answer new. F.read_gives moment old.file at buf answer new.file × KnowsTheSame old new };
+
+    ghost write_gives = { λ moment. IsWritten (F.length_gives moment) (F.write_gives moment) };
+
+    ghost cut_gives = { λ moment. IsCut (F.length_gives moment) (F.cut_gives moment) };
+
+    ghost sync_gives = { λ moment. SyncIs (F.sync_gives moment) (F.name_gives moment) (F.reopen_gives moment) (F.length_gives moment) (F.read_gives moment) (F.write_gives moment) };
 
     fn until(&self) -> u64 {
-        0
+        self.file.until()
     }
 
-    fn length_once(&mut self, _moment: u64) -> io::Result<u64> {
-        self.file.ask_length()
+    fn length_once(&mut self, moment: u64) -> io::Result<u64> {
+        self.file.ask_length(moment)
     }
 
-    fn read_once(&mut self, _moment: u64, at: u64, buf: &mut [u8]) -> io::Result<usize> {
-        self.file.read_from(at, buf)
+    fn read_once(&mut self, moment: u64, at: u64, buf: &mut [u8]) -> io::Result<usize> {
+        self.file.read_from(moment, at, buf)
     }
 
-    fn write_once(&mut self, _moment: u64, at: u64, bytes: &[u8]) -> io::Result<usize> {
-        match self.check_length() {
-            Ok(()) => self.write_known(at, bytes),
+    fn write_once(&mut self, moment: u64, at: u64, bytes: &[u8]) -> io::Result<usize> {
+        match self.check_length(moment) {
+            Ok(()) => self.write_known(moment, at, bytes),
             Err(error) => Err(error),
         }
     }
 
-    fn cut_once(&mut self, _moment: u64, len: u64) -> io::Result<()> {
-        match self.check_length() {
-            Ok(()) => self.cut_known(len),
+    fn cut_once(&mut self, moment: u64, len: u64) -> io::Result<()> {
+        match self.check_length(moment) {
+            Ok(()) => self.cut_known(moment, len),
             Err(error) => Err(error),
         }
     }
 
-    fn sync_once(&mut self, _moment: u64) -> io::Result<()> {
-        match self.file.sync_bytes() {
-            Ok(()) => self.look_synced(),
+    fn sync_once(&mut self, moment: u64) -> io::Result<()> {
+        match self.file.sync_bytes(moment) {
+            Ok(()) => self.look_synced(moment),
             Err(error) => {
-                self.write_again();
+                self.write_again(moment);
                 Err(error)
             }
         }

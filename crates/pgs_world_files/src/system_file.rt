@@ -167,42 +167,51 @@ impl<'a, S: System> NamedFile for SystemFile<'a, S> {
     ghost use Rattle.std.specs.Option.{unwrap_or};
     ghost use Rattle.std.specs.Prelude.{string_bytes};
     ghost use Rattle.pgs_world_files.specs.Calls.{AnswersName, AnswersSync};
+    ghost use Rattle.pgs_world_files.specs.Named.{tells_nothing};
     ghost use Rattle.pgs_world_files.specs.SystemFiles.{IsReopened, Keeps};
 
-    ghost length_gives = { λ old answer new. S.facts.length old.file answer new.file × Keeps old new };
+    ghost over = { tells_nothing };
 
-    ghost read_gives = { λ old at buf answer new. S.facts.read old.file at buf answer new.file × Keeps old new };
+    ghost stops = { tells_nothing };
 
-    ghost write_gives = { λ old at bytes answer new. S.facts.write (unwrap_or old.again old.file) at bytes answer (unwrap_or new.again new.file) × Keeps old new };
+    ghost length_gives = { λ moment old answer new. S.facts.length old.file answer new.file × Keeps old new };
 
-    ghost cut_gives = { λ old len succeeds new. S.facts.cut old.file len succeeds new.file × Keeps old new };
+    ghost read_gives = { λ moment old at buf answer new. S.facts.read old.file at buf answer new.file × Keeps old new };
 
-    ghost sync_gives = { λ old succeeds new. AnswersSync S.facts old.mode old.file succeeds new.file × Keeps old new };
+    ghost write_gives = { λ moment old at bytes answer new. S.facts.write (unwrap_or old.again old.file) at bytes answer (unwrap_or new.again new.file) × Keeps old new };
 
-    ghost reopen_gives = { IsReopened S.facts };
+    ghost cut_gives = { λ moment old len succeeds new. S.facts.cut old.file len succeeds new.file × Keeps old new };
 
-    ghost name_gives = { λ old len succeeds new. AnswersName S.facts old.mode (string_bytes old.name) old.this len old.file succeeds × Keeps old new };
+    ghost sync_gives = { λ moment old succeeds new. AnswersSync S.facts old.mode old.file succeeds new.file × Keeps old new };
 
-    fn ask_length(&mut self) -> io::Result<u64> {
+    ghost reopen_gives = { λ moment. IsReopened S.facts };
+
+    ghost name_gives = { λ moment old len succeeds new. AnswersName S.facts old.mode (string_bytes old.name) old.this len old.file succeeds × Keeps old new };
+
+    fn until(&self) -> u64 {
+        0
+    }
+
+    fn ask_length(&mut self, _moment: u64) -> io::Result<u64> {
         self.system.length(&mut self.file)
     }
 
-    fn read_from(&mut self, at: u64, buf: &mut [u8]) -> io::Result<usize> {
+    fn read_from(&mut self, _moment: u64, at: u64, buf: &mut [u8]) -> io::Result<usize> {
         self.system.read_at(&mut self.file, at, buf)
     }
 
-    fn write_from(&mut self, at: u64, bytes: &[u8]) -> io::Result<usize> {
+    fn write_from(&mut self, _moment: u64, at: u64, bytes: &[u8]) -> io::Result<usize> {
         match &mut self.again {
             Some(file) => self.system.write_at(file, at, bytes),
             None => self.system.write_at(&mut self.file, at, bytes),
         }
     }
 
-    fn cut_to(&mut self, len: u64) -> io::Result<()> {
+    fn cut_to(&mut self, _moment: u64, len: u64) -> io::Result<()> {
         self.system.set_len(&mut self.file, len)
     }
 
-    fn sync_bytes(&mut self) -> io::Result<()> {
+    fn sync_bytes(&mut self, _moment: u64) -> io::Result<()> {
         match self.mode {
             Mode::ToWrite => self.system.sync_data(&mut self.file),
             Mode::ToRead => sync_read(self.system, &mut self.file),
@@ -210,7 +219,7 @@ impl<'a, S: System> NamedFile for SystemFile<'a, S> {
         }
     }
 
-    fn check_name(&mut self, len: u64) -> io::Result<()> {
+    fn check_name(&mut self, _moment: u64, len: u64) -> io::Result<()> {
         match self.mode {
             Mode::ToWrite | Mode::ToRead => {
                 check_known(self.system, &self.file, self.name.as_str(), self.this, len)
@@ -219,7 +228,7 @@ impl<'a, S: System> NamedFile for SystemFile<'a, S> {
         }
     }
 
-    fn open_to_write(&mut self) {
+    fn open_to_write(&mut self, _moment: u64) {
         match self.mode {
             Mode::ToRead => {}
             Mode::ToWrite | Mode::Beside => return,

@@ -58,6 +58,13 @@ CutOf t old len false new = IsStill old new
 abbrev pub SyncOf : ℕ → Kept → Bool → Kept → Type 0
 SyncOf t old succeeds new = IsStill old new
 
+-- as the file of a name, which is always found, and open to be written
+abbrev pub NameOf : ℕ → Kept → ℕ → Bool → Kept → Type 0
+NameOf t old len succeeds new = IsStill old new
+
+abbrev pub ReopenOf : ℕ → Kept → Kept → Type 0
+ReopenOf t old new = IsStill old new
+
 -- and as an output
 abbrev pub AddOf : ℕ → Kept → List ℕ → Result ℕ Error → Kept → Type 0
 AddOf t old piece (Ok count) new = (count ≡ length piece) × IsChanged t (old.bytes.items ++ piece) old new

@@ -1,16 +1,18 @@
 -- The file and the output in memory keep the laws of what a stop may leave.
 use Rattle.std.specs.Prelude.{◌≡◌, ◌⊎◌, ℕ, ◌+◌, ◌<◌, ◌≤◌, Bool, true, false, List, [], ◌∷◌, ◌++◌, length, take, drop, Result, Ok, Err, refl}
 use Rattle.std.proofs.Common.{inl, inr, sym, ap, subst, ◌∙◌, arith, append_assoc, append-nil, length-append, length-take-le, length-drop, le_refl}
-use Rattle.std.proofs.lemmas.List.{take_at, drop_at, take-take, take_all}
+use Rattle.std.proofs.lemmas.List.{take_at, drop_at, take-append-drop, take-take, take_all}
+use Rattle.std.proofs.Math.Seq.{take-add}
 use Rattle.std.specs.declared.io.Error.{Error}
 use Rattle.pgs_world.specs.Disk.{written_over, IsTorn, IsCutShort}
 use Rattle.pgs_world_streams.specs.Past.{IsPast, GoesOn, IsSame}
 use Rattle.pgs_world_streams.specs.Written.{HasWriterStops, IsLonger}
 use Rattle.pgs_world_files.specs.Contents.{IsOver}
+use Rattle.pgs_world_files.specs.NamedLaws.{IsNamedOver, HasNamedStops}
 use Rattle.pgs_world_files.specs.Stops.{HasStops}
 use Rattle.tests_world.specs.declared.stopping.Was.{Was}
 use Rattle.tests_world.specs.declared.stopping.Kept.{Kept}
-use Rattle.tests_world.specs.Stopping.{left_by, left_in, past_by, past_of, IsStill, IsChanged, LengthOf, ReadOf, WriteOf, CutOf, SyncOf, AddOf, told_of}
+use Rattle.tests_world.specs.Stopping.{left_by, left_in, past_by, past_of, IsStill, IsChanged, LengthOf, ReadOf, WriteOf, CutOf, SyncOf, NameOf, ReopenOf, AddOf, told_of}
 
 kept_is_past : (kept : Kept) → IsPast (past_of kept)
 kept_is_past kept = record { settled = λ t c le left. settled t c le left; now = λ t c le is. inl (omega (arith, le), is) }
@@ -131,6 +133,37 @@ kept_over t =
       length_keeps = λ old new answer gave. gave.0.bytes;
       read_keeps = λ old new at buf answer gave. gave.0.bytes;
       sync_keeps = λ old new succeeds gave. gave.bytes;
+    }
+
+-- the byte that stands at a place, written there
+again_written : (bytes byte : List ℕ) (at : ℕ) → length byte ≡ 1 → byte ≡ take 1 (drop at bytes) → written_over bytes at byte ≡ bytes
+again_written bytes byte at size stands =
+    ap (λ n. take at bytes ++ byte ++ drop (at + n) bytes) size ∙ ap (λ (l : List ℕ). take at bytes ++ l ++ drop (at + 1) bytes) stands
+    ∙ ap (λ (l : List ℕ). l ++ drop (at + 1) bytes) (sym (take-add at 1 bytes)) ∙ take-append-drop (at + 1) bytes
+
+again_on : (t : ℕ) (old new : Kept) (at : ℕ) (byte : List ℕ) (answer : Result ℕ Error) → old.until ≤ t + 1 → length byte ≡ 1
+    → byte ≡ take 1 (drop at old.bytes.items) → WriteOf t old at byte answer new → GoesOn IsSame t (past_of old) (past_of new)
+again_on t old new at byte (Ok count) le size stands gave =
+    changed_on IsSame t old new (written_over old.bytes.items at byte) (again_written old.bytes.items byte at size stands) le gave.2
+again_on t old new at byte (Err error) le size stands gave = still_on IsSame same_none t old new le gave
+
+pub named_over : (t : ℕ) → IsNamedOver (λ kept. kept.bytes.items) (LengthOf t) (ReadOf t) (WriteOf t) (CutOf t) (SyncOf t) (NameOf t) (ReopenOf t)
+named_over t =
+    record {
+      over = kept_over t;
+      name_keeps = λ old new len succeeds gave. gave.bytes;
+      reopen_keeps = λ old new gave. gave.bytes;
+    }
+
+pub named_stops : HasNamedStops (λ kept. kept.bytes.items) past_of LengthOf ReadOf WriteOf CutOf SyncOf NameOf ReopenOf
+named_stops =
+    record {
+      over = named_over;
+      handle = kept_stops;
+      name = λ t old new len succeeds le gave. still_on IsSame same_none t old new le gave;
+      name_leaves = λ t old new len succeeds c gave left. left ∙ gave.bytes;
+      reopen = λ t old new le gave. still_on IsSame same_none t old new le gave;
+      again = again_on;
     }
 
 pub output_stops : HasWriterStops told_of past_of AddOf SyncOf

@@ -31,4 +31,4 @@ mod words;
 mod writing;
 
 pub use counting::{CountEnd, LIMIT, count_lines};
-pub use stopping::{Kept, Was, kept_world};
+pub use stopping::{Kept, Was, kept_store_world, kept_world};

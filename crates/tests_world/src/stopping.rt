@@ -7,7 +7,7 @@ ghost use Rattle.pgs_world.specs.Moment.{IsSettled};
 
 use pgs_base::Seed;
 use pgs_world::World;
-use pgs_world_files::{AreaFile, AreaFiles, FileWorld, Handle};
+use pgs_world_files::{AreaFile, AreaFiles, FileWorld, Handle, NamedFile, StoreFile};
 use pgs_world_streams::SteadyWrite;
 use std::alloc::{AllocError, Global};
 use std::io::{self, ErrorKind, Write};
@@ -200,6 +200,69 @@ impl Handle for Kept {
     }
 }
 
+/// The same as the file of a name, which always is this one.
+impl NamedFile for Kept {
+    ghost use Rattle.std.specs.Prelude.{true};
+    ghost use Rattle.tests_world.specs.Stopping.{past_of, LengthOf, ReadOf, WriteOf, CutOf, SyncOf, NameOf, ReopenOf};
+    ghost use Rattle.tests_world.specs.StoppingLaws.{named_over, named_stops};
+
+    ghost tells = { true };
+
+    ghost contents = { λ kept. kept.bytes.items };
+
+    ghost tells_stops = { true };
+
+    ghost past = { past_of };
+
+    ghost length_gives = { LengthOf };
+
+    ghost read_gives = { ReadOf };
+
+    ghost write_gives = { WriteOf };
+
+    ghost cut_gives = { CutOf };
+
+    ghost sync_gives = { SyncOf };
+
+    ghost name_gives = { NameOf };
+
+    ghost reopen_gives = { ReopenOf };
+
+    ghost over = { λ tells t. named_over t };
+
+    ghost stops = { λ tells. named_stops };
+
+    fn until(&self) -> u64 {
+        self.until
+    }
+
+    fn ask_length(&mut self, moment: u64) -> io::Result<u64> {
+        self.length_once(moment)
+    }
+
+    fn read_from(&mut self, moment: u64, at: u64, buf: &mut [u8]) -> io::Result<usize> {
+        self.read_once(moment, at, buf)
+    }
+
+    fn write_from(&mut self, moment: u64, at: u64, bytes: &[u8]) -> io::Result<usize> {
+        Handle::write_once(self, moment, at, bytes)
+    }
+
+    fn cut_to(&mut self, moment: u64, len: u64) -> io::Result<()> {
+        self.cut_once(moment, len)
+    }
+
+    fn sync_bytes(&mut self, moment: u64) -> io::Result<()> {
+        self.sync_once(moment)
+    }
+
+    fn check_name(&mut self, _moment: u64, _len: u64) -> io::Result<()> {
+        Ok(())
+    }
+
+    fn open_to_write(&mut self, _moment: u64) {}
+}
+
 impl Write for Kept {
     ghost use Rattle.tests_world.specs.Stopping.{told_of};
 
@@ -258,5 +321,14 @@ pub fn kept_world(alloc: Global) -> FileWorld<Kept, Kept>
 {
     let a = AreaFile::new(Kept::new(alloc));
     let b = AreaFile::new(Kept::new(alloc));
+    FileWorld::new(AreaFiles::new(a, b), Kept::new(alloc), Seed::Fixed)
+}
+
+/// The same over two files of a store.
+pub fn kept_store_world(alloc: Global) -> FileWorld<Kept, StoreFile<Kept>>
+    ensures settled { IsSettled (⟦<FileWorld<Kept, StoreFile<Kept>> as World>⟧.view result) }
+{
+    let a = AreaFile::new(StoreFile::new(Kept::new(alloc), 0));
+    let b = AreaFile::new(StoreFile::new(Kept::new(alloc), 0));
     FileWorld::new(AreaFiles::new(a, b), Kept::new(alloc), Seed::Fixed)
 }

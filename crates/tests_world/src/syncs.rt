@@ -22,11 +22,21 @@ struct Failing {
 }
 
 impl NamedFile for Failing {
-    fn ask_length(&mut self) -> io::Result<u64> {
+    ghost use Rattle.pgs_world_files.specs.Named.{tells_nothing};
+
+    ghost over = { tells_nothing };
+
+    ghost stops = { tells_nothing };
+
+    fn until(&self) -> u64 {
+        0
+    }
+
+    fn ask_length(&mut self, _moment: u64) -> io::Result<u64> {
         Ok(1025)
     }
 
-    fn read_from(&mut self, at: u64, buf: &mut [u8]) -> io::Result<usize> {
+    fn read_from(&mut self, _moment: u64, at: u64, buf: &mut [u8]) -> io::Result<usize> {
         match buf.first_mut() {
             Some(place) => {
                 *place = match at / 512 {
@@ -40,7 +50,7 @@ impl NamedFile for Failing {
         }
     }
 
-    fn write_from(&mut self, at: u64, bytes: &[u8]) -> io::Result<usize> {
+    fn write_from(&mut self, _moment: u64, at: u64, bytes: &[u8]) -> io::Result<usize> {
         if !self.opened {
             return Err(io::Error::from(ErrorKind::PermissionDenied));
         }
@@ -54,11 +64,11 @@ impl NamedFile for Failing {
         Ok(1)
     }
 
-    fn cut_to(&mut self, _len: u64) -> io::Result<()> {
+    fn cut_to(&mut self, _moment: u64, _len: u64) -> io::Result<()> {
         Ok(())
     }
 
-    fn sync_bytes(&mut self) -> io::Result<()> {
+    fn sync_bytes(&mut self, _moment: u64) -> io::Result<()> {
         self.syncs = self.syncs.saturating_add(1);
         match self.syncs {
             1 => Err(io::Error::from(ErrorKind::StorageFull)),
@@ -66,14 +76,14 @@ impl NamedFile for Failing {
         }
     }
 
-    fn check_name(&mut self, _len: u64) -> io::Result<()> {
+    fn check_name(&mut self, _moment: u64, _len: u64) -> io::Result<()> {
         match self.named {
             true => Ok(()),
             false => Err(io::Error::from(ErrorKind::StaleNetworkFileHandle)),
         }
     }
 
-    fn open_to_write(&mut self) {
+    fn open_to_write(&mut self, _moment: u64) {
         self.opened = self.syncs == 1;
     }
 }

@@ -8,4 +8,4 @@ pub loop-block-init : goal.loop-block-init
 loop-block-init g c = no_block
 
 pub loop-block-preserved : goal.loop-block-preserved
-loop-block-preserved g c = one_more c.loop-block.invariant (subst (λ at. IsByteRewritten g.F.NamedFile.read_gives g.F.NamedFile.write_gives c.loop-block.file at c.rewrite_byte.new.file) (grind (arith, div_ceil_times)) c.rewrite_byte.ensures)
+loop-block-preserved g c = one_more c.loop-block.invariant (subst (λ at. IsByteRewritten (g.F.NamedFile.read_gives c.args.moment) (g.F.NamedFile.write_gives c.args.moment) c.loop-block.file at c.rewrite_byte.new.file) (grind (arith, div_ceil_times)) c.rewrite_byte.ensures)
