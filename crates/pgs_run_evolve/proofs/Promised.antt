@@ -5,7 +5,7 @@ use Rattle.pgs_run_lines.specs.Machine.{Told}
 use Rattle.pgs_run_lines.specs.Ending.{Faults, faults_of}
 use Rattle.pgs_run_lines.specs.Pieces.{Shown, shown_of}
 use Rattle.pgs_command.specs.declared.status.Status.{Status}
-use Rattle.pgs_command.specs.declared.status.Status.TheVariants.{DiskFault, InputTooLong}
+use Rattle.pgs_command.specs.declared.status.Status.TheVariants.{DiskFault}
 use Rattle.pgs_command.specs.Answers.{IsOfCommand}
 use Rattle.pgs_command.specs.Areas.{areas_of}
 use Rattle.pgs_command.specs.Ending.{Ends}
