@@ -1,10 +1,12 @@
 -- Which line is told, and what is left where both areas are kept.
-use Rattle.std.proofs.Common.{◌≡◌, inl, ℕ, ◌+◌, Bool, true, false, List, [], ◌∷◌, Option, Some, None, Result, Ok, Err, refl, sym, ap₂, ◌∙◌}
+use Rattle.std.proofs.Common.{◌≡◌, inl, ℕ, ◌+◌, Bool, true, false, IsTrue, List, [], ◌∷◌, Option, Some, None, Result, Ok, Err, refl, sym, ap₂, subst, ◌∙◌}
 use Rattle.std.specs.Prelude.{◌==◌, if◌then◌else◌}
 use Rattle.std.proofs.lemmas.List.{append-nil}
 use Rattle.pgs_answer.specs.Lines.{checkpoint_line, schema_refused_line, store_refused_line}
 use Rattle.pgs_answer.specs.Refusals.{epochs_spent_text, foreign_text, no_store_text, bad_record_text, bad_history_text}
 use Rattle.pgs_run_lines.specs.Machine.{Told}
+use Rattle.pgs_run_lines.specs.Pieces.{Shown, ShowsAll, shown_of}
+use Rattle.pgs_run_lines.proofs.Showing.{shows_none}
 use Rattle.pgs_snapshot.specs.Choice.{chosen_area, chosen_epoch}
 use Rattle.pgs_snapshot.specs.Saved.{SavedState, saved}
 use Rattle.pgs_snapshot.specs.Saved as states
@@ -13,14 +15,14 @@ use Rattle.pgs_world.specs.Moment.{EachSince, IsQuiet, IsSettled, IsTimed}
 use Rattle.pgs_world.specs.World.{Triple, View}
 use Rattle.pgs_world.proofs.Moments.{each_quiet, quiet_none}
 use Rattle.pgs_command.specs.declared.status.Status.{Status}
-use Rattle.pgs_command.specs.declared.status.Status.TheVariants.{Accepted, Memory}
+use Rattle.pgs_command.specs.declared.status.Status.TheVariants.{Accepted, Refused, BadWords, SchemaRefused, StoreRefused, DiskFault, ReadFault, PutFault, Memory, InputTooLong}
 use Rattle.pgs_command.specs.Areas.{Areas, areas_of}
 use Rattle.pgs_command.specs.Images.{KeepsImages}
 use Rattle.pgs_command.proofs.Images.{area_of_images, images_none}
 use Rattle.pgs_run_input.specs.Answers.{schema_answer, schema_or_text}
 use Rattle.pgs_run_input.specs.Session.{standard}
 use Rattle.pgs_run_store.specs.Refusing.{SavedStore, store_refused, told_of_areas, told_saved, told_under}
-use Rattle.pgs_run_checkpoint.specs.Leaving.{IsStore, LeavesRenewed, PutsFront, StopsRenewing, saved_there}
+use Rattle.pgs_run_checkpoint.specs.Leaving.{IsStore, IsTorn, IsUnput, LeavesRenewed, PutsFront, StopsRenewing, saved_there}
 use Rattle.pgs_run_checkpoint.specs.Told.{told_by, told_checkpoint}
 
 -- ---- one line is told, and it isn't empty where a checkpoint was made
@@ -86,16 +88,49 @@ stops_quiet old new quiet settled =
     each_quiet old new (StopsRenewing old) settled.honest quiet
     (λ c may. let puts = puts_none old c c may refl in stops_kept old c (settled.a c may) (settled.b c may) puts.0 puts.1)
 
-pub leaves_kept : (old new : View) (status : Status) → KeepsImages old new → (status ≡ Accepted → ⊥) → (IsSettled old → IsStore (saved_there old.shown) → EachSince (StopsRenewing old) old new) → LeavesRenewed old new status
-leaves_kept old new status images never stops = record {
+-- nothing was put
+pub shows_same : (start now : Shown) → now ≡ start → ShowsAll start [] now
+shows_same start now same = subst (λ (at : Shown). ShowsAll start [] at) (sym same) (shows_none start)
+
+-- a refusal's line was being put
+torn_kept : (told : Status) (old new : View) → KeepsImages old new → (told ≡ Accepted → ⊥) → IsTorn told old new
+torn_kept Accepted old new images never = absurd (never refl)
+torn_kept Refused old new images never = images
+torn_kept BadWords old new images never = images
+torn_kept SchemaRefused old new images never = images
+torn_kept StoreRefused old new images never = images
+torn_kept DiskFault old new images never = images
+torn_kept ReadFault old new images never = images
+torn_kept PutFault old new images never = images
+torn_kept Memory old new images never = images
+torn_kept InputTooLong old new images never = images
+
+-- with 7 the line of a refusal was being put, and with want of memory nothing was
+pub record PutsRefusal (old new : View) (status : Status) : Type 0 where
+  pub never : status ≡ Accepted → ⊥
+  pub torn : IsTrue old.tells_bytes → status ≡ PutFault → (told_checkpoint (areas_of old)).status ≡ Accepted → ⊥
+  pub unput : IsUnput status → ShowsAll (shown_of old) [] (shown_of new)
+
+pub leaves_kept : (old new : View) (status : Status) → KeepsImages old new → PutsRefusal old new status → (IsSettled old → IsStore (saved_there old.shown) → EachSince (StopsRenewing old) old new) → LeavesRenewed old new status
+leaves_kept old new status images puts stops = record {
   passes = images.passes;
   stops = stops;
   unsaved = λ tells none. images;
   unwritten = λ is. images;
   beside = λ tells area is. area_of_images area old new images;
   kept = λ tells no. ap₂ (saved standard) images.a images.b;
-  renewed = λ tells accepted. absurd (never accepted);
+  renewed = λ tells accepted. absurd (puts.never accepted);
+  torn = λ tells is. torn_kept (told_checkpoint (areas_of old)).status old new images (puts.torn tells is);
+  unput = puts.unput;
+}
+
+-- there was no memory
+pub puts_memory : (old new : View) → shown_of new ≡ shown_of old → PutsRefusal old new Memory
+puts_memory old new same = record {
+  never = λ is. cc;
+  torn = λ tells is accepted. let no : Memory ≡ PutFault = is in cc;
+  unput = λ is. shows_same (shown_of old) (shown_of new) same;
 }
 
 pub renewed_none : (view : View) → IsTimed view → LeavesRenewed view view Memory
-renewed_none view timed = leaves_kept view view Memory (images_none view timed) (λ accepted. cc) (λ settled store. stops_quiet view view (quiet_none view timed) settled)
+renewed_none view timed = leaves_kept view view Memory (images_none view timed) (puts_memory view view refl) (λ settled store. stops_quiet view view (quiet_none view timed) settled)

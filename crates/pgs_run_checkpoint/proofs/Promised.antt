@@ -1,5 +1,5 @@
 -- The promise of a run, by how it ended.
-use Rattle.std.proofs.Common.{◌≡◌, ℕ, ◌+◌, true, false, IsTrue, List, [], ◌∷◌, Err, refl, sym, ◌∙◌, ap, subst}
+use Rattle.std.proofs.Common.{◌≡◌, inl, inr, ℕ, ◌+◌, true, false, IsTrue, List, [], ◌∷◌, Err, refl, sym, ◌∙◌, ap, subst}
 use Rattle.pgs_answer.specs.Lines.{checkpoint_line, store_refused_line}
 use Rattle.pgs_answer.specs.Refusals.{epochs_spent_text}
 use Rattle.pgs_journal.specs.declared.journal.Journal.{Journal}
@@ -21,8 +21,9 @@ use Rattle.pgs_command.proofs.Promising.{promise_alone}
 use Rattle.pgs_command.proofs.Replied.{IsOwn, reply_cause, reply_ends}
 use Rattle.pgs_run_store.specs.declared.opening.Unopened.{Unopened}
 use Rattle.pgs_run_store.specs.declared.opening.Unopened.TheVariants as unopened
-use Rattle.pgs_run_store.specs.Ending.{is_refusal}
-use Rattle.pgs_run_store.specs.Opening.{Opens}
+use Rattle.pgs_run_store.specs.Ending.{EndsUnopened, is_refusal}
+use Rattle.pgs_run_store.specs.Opening.{IsRefusal, Opens}
+use Rattle.pgs_run_store.specs.Refusing.{SavedStore, told_of_areas}
 use Rattle.pgs_run_store.proofs.Reading.{RunsOpened}
 use Rattle.pgs_run_store.proofs.Saving.{never_refused}
 use Rattle.pgs_run_store.proofs.Shown.{same_faults, same_shown, shows_no_piece, shown_quiet}
@@ -35,10 +36,10 @@ use Rattle.pgs_world.specs.Count.{RoseByOne}
 use Rattle.pgs_world.specs.Moment.{EachSince, IsSettled}
 use Rattle.pgs_world.specs.World.{View, other}
 use Rattle.pgs_world.proofs.Moments.{each_on, quiet_now, settled_quiet}
-use Rattle.pgs_run_checkpoint.specs.Leaving.{IsStore, LeavesRenewed, StopsRenewing, saved_there}
+use Rattle.pgs_run_checkpoint.specs.Leaving.{IsStore, IsUnput, LeavesRenewed, StopsRenewing, saved_there}
 use Rattle.pgs_run_checkpoint.specs.Spec.{checkpoint_spec}
 use Rattle.pgs_run_checkpoint.specs.Told.{told_by, told_checkpoint}
-use Rattle.pgs_run_checkpoint.proofs.Kept.{leaves_kept, stops_kept, stops_quiet}
+use Rattle.pgs_run_checkpoint.proofs.Kept.{PutsRefusal, leaves_kept, puts_memory, shows_same, stops_kept, stops_quiet}
 use Rattle.pgs_run_checkpoint.proofs.Renewing.{leaves_failed, leaves_renewed, reply_by, settled_late, told_next, told_spent}
 
 -- what is known of a run
@@ -71,6 +72,31 @@ not_refused (unopened.Refused reply) old mid opens tells store = absurd (never_r
 not_refused unopened.DiskFault old mid opens tells store = refl
 not_refused unopened.Memory old mid opens tells store = refl
 
+-- with 7 the line of its refusal was being put
+unopened_torn : (reason : Unopened) (old mid new : View) (result : Status) (go : SavedStore → Told Status) → Opens (Err reason) old mid → EndsUnopened reason mid result new → IsTrue old.tells_bytes → result ≡ PutFault
+    → (told_of_areas (areas_of old) go).status ≡ Accepted → ⊥
+unopened_torn (unopened.Refused reply) old mid new result go opens ends tells is accepted =
+    subst IsRefusal (sym (ap (λ (t : Told Status). t.status) (opens.1 tells go)) ∙ accepted) opens.0
+unopened_torn unopened.DiskFault old mid new result go opens ends tells is accepted = let no : DiskFault ≡ PutFault = sym ends.0 ∙ is in cc
+unopened_torn unopened.Memory old mid new result go opens ends tells is accepted = let no : Memory ≡ PutFault = sym ends.0 ∙ is in cc
+
+-- and with 8 nothing was put
+unopened_unput : (reason : Unopened) (old mid new : View) (result : Status) → Opens (Err reason) old mid → EndsUnopened reason mid result new → result ≡ Memory → shown_of new ≡ shown_of mid
+unopened_unput (unopened.Refused reply) old mid new result opens (inl whole) is = absurd (subst IsRefusal (sym whole.0 ∙ is) opens.0)
+unopened_unput (unopened.Refused reply) old mid new result opens (inr torn) is = absurd (let no : PutFault ≡ Memory = sym torn.0 ∙ is in cc)
+unopened_unput unopened.DiskFault old mid new result opens ends is = ends.1.shown
+unopened_unput unopened.Memory old mid new result opens ends is = ends.1.shown
+
+unopened_puts : (reason : Unopened) (old mid new : View) (result : Status) → RunsUnopened reason old mid new result → PutsRefusal old new result
+unfolding told_checkpoint
+unopened_puts reason old mid new result ran = record {
+  never = unopened_by reason old mid new result ran (λ s. s ≡ Accepted → ⊥) (λ is. cc) (λ is. cc) (λ is. cc) (λ is. cc) (λ is. cc);
+  torn = unopened_torn reason old mid new result (told_by (chosen_epoch old.shown.a old.shown.b)) ran.opens ran.ends;
+  unput = λ is.
+      let memory = unopened_by reason old mid new result ran (λ s. IsUnput s → s ≡ Memory) (λ no. absurd no) (λ no. absurd no) (λ no. absurd no) (λ yes. refl) (λ no. absurd no) is in
+      shows_same (shown_of old) (shown_of new) (unopened_unput reason old mid new result ran.opens ran.ends memory ∙ shown_quiet old mid ran.quiet ran.no_put);
+}
+
 pub promised_unopened : (reason : Unopened) (old mid new : View) (result : Status) → RunsUnopened reason old mid new result → (is_refusal reason ≡ false → new ≡ mid) → PromiseAlone checkpoint_spec old new result
 unfolding told_checkpoint
 promised_unopened reason old mid new result ran early =
@@ -79,7 +105,7 @@ promised_unopened reason old mid new result ran early =
       shown = unopened_shown reason old mid new result ran (told_by (chosen_epoch old.shown.a old.shown.b));
       answer = unopened_answer reason old mid new result ran;
       cause = unopened_cause reason old mid new result ran false;
-      leaves = leaves_kept old new result images (unopened_by reason old mid new result ran (λ s. s ≡ Accepted → ⊥) (λ is. cc) (λ is. cc) (λ is. cc) (λ is. cc) (λ is. cc))
+      leaves = leaves_kept old new result images (unopened_puts reason old mid new result ran)
           (λ settled store. subst (λ (view : View). EachSince (StopsRenewing old) old view) (sym (early (not_refused reason old mid ran.opens settled.tells_bytes store))) (stops_quiet old mid ran.quiet settled));
       settles = λ settled no. settled_images old new settled images;
     })
@@ -124,7 +150,7 @@ module _ (it : StoreState) (old mid : View) (ran : RunsOpened it old mid) where
     shown = λ tells. none_shown mid mid_shown;
     answer = tt;
     cause = mid_faults;
-    leaves = leaves_kept old mid Memory (images_quiet old mid ran.quiet) (λ accepted. cc) (λ settled store. stops_quiet old mid ran.quiet settled);
+    leaves = leaves_kept old mid Memory (images_quiet old mid ran.quiet) (puts_memory old mid mid_shown) (λ settled store. stops_quiet old mid ran.quiet settled);
     settles = λ settled no. settled_quiet old mid settled ran.quiet;
   })
 
@@ -150,12 +176,19 @@ module _ (it : StoreState) (old mid : View) (ran : RunsOpened it old mid) where
           output = from.2.added;
         }) (λ none accepted. let no : StoreRefused ≡ Accepted = sym (ap (λ (t : Told Status). t.status) told) ∙ accepted in cc)
 
+    spent_puts : PutsRefusal old new result
+    spent_puts = record {
+      never = reply_by (λ s. s ≡ Accepted → ⊥) line StoreRefused result mid new (λ is. cc) (λ is. cc) put;
+      torn = λ tells is accepted. let no : StoreRefused ≡ Accepted = sym (ap (λ (t : Told Status). t.status) (told_spent it old mid ran tells last)) ∙ accepted in cc;
+      unput = λ is. absurd (reply_by (λ s. IsUnput s → ⊥) line StoreRefused result mid new (λ no. no) (λ no. no) put is);
+    }
+
     pub promised_spent : PromiseAlone checkpoint_spec old new result
     promised_spent =
         let images : KeepsImages old new = images_on old mid new (images_quiet old mid ran.quiet) (images_areas mid new put.areas) in
         promised_line line StoreRefused result old mid new
         (record { shown = mid_shown; faults = mid_faults; own = refl; answer = tt; told = λ tells. told_spent it old mid ran tells last; put = put })
-        (leaves_kept old new result images (reply_by (λ s. s ≡ Accepted → ⊥) line StoreRefused result mid new (λ is. cc) (λ is. cc) put)
+        (leaves_kept old new result images spent_puts
         (λ settled store. each_on old mid new (StopsRenewing old) ran.quiet.passes put.areas.passes (stops_quiet old mid ran.quiet settled) (spending settled)))
         (λ settled. settled_images old new settled images)
 

@@ -29,7 +29,7 @@ use Rattle.pgs_world.specs.declared.area.Area.TheVariants.{A, B}
 use Rattle.pgs_world.specs.Moment.{EachSince, IsSettled}
 use Rattle.pgs_world.specs.World.{Triple, View, other}
 use Rattle.pgs_world.proofs.Moments.{each_on, passes_on, quiet_now}
-use Rattle.pgs_run_checkpoint.specs.Leaving.{IsAsBefore, IsRenewed, LeavesRenewed, PutsFront, StopsRenewing, records_of, saved_there}
+use Rattle.pgs_run_checkpoint.specs.Leaving.{IsAsBefore, IsRenewed, IsTorn, IsUnput, LeavesRenewed, PutsFront, StopsRenewing, records_of, saved_there}
 use Rattle.pgs_run_checkpoint.specs.Told.{told_by, told_checkpoint}
 use Rattle.pgs_run_checkpoint.proofs.Kept.{puts_none, stops_quiet}
 
@@ -136,6 +136,8 @@ module _ (it : StoreState) (old mid : View) (ran : RunsOpened it old mid) where
           subst (λ (a : Area). KeepsArea a old late) same (area_on it.journal.area old mid late (area_of_images it.journal.area old mid (images_quiet old mid ran.quiet)) chosen_kept);
       kept = λ tells no. absurd (no refl);
       renewed = λ tells accepted. absurd (let no : DiskFault ≡ Accepted = accepted in cc);
+      torn = λ tells is. absurd (let no : DiskFault ≡ PutFault = is in cc);
+      unput = λ is. absurd is;
     }
       where
         renewing : IsSettled old → EachSince (StopsRenewing old) mid late
@@ -192,4 +194,7 @@ module _ (it : StoreState) (old mid : View) (ran : RunsOpened it old mid) where
               beside = λ tells area is. area_on area old late new (during.beside tells area is) (area_of_images area late new (images_areas late new put.areas));
               kept = λ tells no. same_saved tells new.shown (inr (behind tells new.shown put.areas.a put.areas.b));
               renewed = λ tells accepted. is_renewed tells new.shown (behind tells new.shown put.areas.a put.areas.b);
+              torn = λ tells is.
+                  subst (λ (t : Told Status). IsTorn t.status old new) (sym (told_next tells)) (is_renewed tells new.shown (behind tells new.shown put.areas.a put.areas.b));
+              unput = λ is. absurd (reply_by (λ s. IsUnput s → ⊥) line Accepted result late new (λ no. no) (λ no. no) put is);
             }

@@ -4,13 +4,14 @@ use Rattle.pgs_base.specs.Graph.{Graph}
 use Rattle.pgs_codec.specs.declared.command.Command.TheVariants.{Schema, Snapshot}
 use Rattle.pgs_codec.specs.Payload.{payload_of}
 use Rattle.pgs_run_lines.specs.Machine.{Told}
+use Rattle.pgs_run_lines.specs.Pieces.{ShowsAll, shown_of}
 use Rattle.pgs_snapshot.specs.Choice.{choice_of, chosen, chosen_area, chosen_epoch}
 use Rattle.pgs_snapshot.specs.Saved.{SavedState, saved, store}
 use Rattle.pgs_world.specs.declared.area.Area.{Area}
 use Rattle.pgs_world.specs.Moment.{EachSince, IsSettled, Passes}
 use Rattle.pgs_world.specs.World.{Triple, View, other}
 use Rattle.pgs_command.specs.declared.status.Status.{Status}
-use Rattle.pgs_command.specs.declared.status.Status.TheVariants.{Accepted, DiskFault}
+use Rattle.pgs_command.specs.declared.status.Status.TheVariants.{Accepted, DiskFault, ReadFault, PutFault, Memory, InputTooLong}
 use Rattle.pgs_command.specs.Areas.{areas_of}
 use Rattle.pgs_command.specs.Images.{IsUnwritten, KeepsArea, KeepsImages}
 use Rattle.pgs_run_input.specs.Session.{standard}
@@ -61,6 +62,18 @@ pub record StopsRenewing (start : View) (c : Triple) : Type 0 where
   pub chosen_as : IsAsBefore start.shown c ⊎ IsRenewed start.shown c
   pub whole : puts.back ≡ [] → (told_checkpoint (areas_of start)).status ≡ Accepted → IsRenewed start.shown c
 
+-- with these statuses nothing was put
+abbrev pub IsUnput : Status → Type 0
+IsUnput ReadFault = Unit {0}
+IsUnput Memory = Unit {0}
+IsUnput InputTooLong = Unit {0}
+IsUnput status = ⊥
+
+-- Where a line with this status was being put: behind a checkpoint the renewed store is chosen, and behind a refusal both areas are as before.
+abbrev pub IsTorn : Status → View → View → Type 0
+IsTorn Accepted old new = IsRenewed old.shown new.shown
+IsTorn status old new = KeepsImages old new
+
 pub record LeavesRenewed (old new : View) (status : Status) : Type 0 where
   pub passes : Passes old new
   pub stops : IsSettled old → IsStore (saved_there old.shown) → EachSince (StopsRenewing old) old new
@@ -71,3 +84,7 @@ pub record LeavesRenewed (old new : View) (status : Status) : Type 0 where
   -- Unless an area failed, the same is saved at the end; and where the line of a checkpoint was put, the renewed store is chosen.
   pub kept : IsTrue old.tells_bytes → (status ≡ DiskFault → ⊥) → saved_there new.shown ≡ saved_there old.shown
   pub renewed : IsTrue old.tells_bytes → status ≡ Accepted → IsRenewed old.shown new.shown
+  -- the same where the put of that line failed, and of that one alone
+  pub torn : IsTrue old.tells_bytes → status ≡ PutFault → IsTorn (told_checkpoint (areas_of old)).status old new
+  -- want of memory comes before the line is put
+  pub unput : IsUnput status → ShowsAll (shown_of old) [] (shown_of new)

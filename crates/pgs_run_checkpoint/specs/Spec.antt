@@ -1,5 +1,5 @@
 -- The command `checkpoint`.
-use Rattle.std.specs.Prelude.{◌≡◌, true, false, refl, []}
+use Rattle.std.specs.Prelude.{◌≡◌, true, false, []}
 use Rattle.pgs_command.specs.Answers.{IsOfCommand}
 use Rattle.pgs_command.specs.Spec.{CommandSpec}
 use Rattle.pgs_run_checkpoint.specs.Leaving.{LeavesRenewed}

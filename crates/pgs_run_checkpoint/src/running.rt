@@ -46,7 +46,8 @@ fn spent_reply(alloc: Global) -> Result<Reply<Status>, Memory>
 /// At every moment what is saved is what it was. Where the whole line is in the output, the renewed store is the one that is chosen.
 /// `StoreRefused` is 30, 32, 33 and 34 as for every command over a saved store, and 37 at the last epoch; `SchemaRefused` is a refusal
 /// of the stored schema text. Where no store is saved, both areas are what they were at every moment. `DiskFault` comes only where the
-/// count of area faults rose, and `PutFault` where that of put faults did; `Memory` may come wherever there is none.
+/// count of area faults rose, and `PutFault` where that of put faults did; `Memory` may come wherever there is none, before a line
+/// is put.
 pub fn run_checkpoint<W: World>(alloc: Global, world: &mut W) -> Status
     ensures promise { PromiseAlone checkpoint_spec (W.view world.old) (W.view world.new) result }
     ensures last { fails_world result ≡ true → W.failed world.new }

@@ -9,7 +9,7 @@ use Rattle.pgs_journal.specs.declared.journal.Journal.{Journal}
 use Rattle.pgs_resolve.specs.SchemaOf.{schema, schema_of}
 use Rattle.pgs_run_lines.specs.Machine.{Told}
 use Rattle.pgs_run_lines.specs.Pieces.{shown_of}
-use Rattle.pgs_run_lines.specs.Replies.{EndsReply, PutsReply}
+use Rattle.pgs_run_lines.specs.Replies.{EndsLast, EndsReply, PutsReply}
 use Rattle.pgs_command.specs.declared.status.Status.{Status}
 use Rattle.pgs_command.specs.declared.status.Status.TheVariants.{Accepted, Refused, SchemaRefused, StoreRefused, DiskFault, PutFault, Memory}
 use Rattle.pgs_command.specs.Answers.{IsOfCommand}
@@ -36,10 +36,10 @@ use Rattle.pgs_world.specs.Moment.{EachSince, IsSettled, IsTimed, Passes}
 use Rattle.pgs_world.specs.World.{Triple, View, other}
 use Rattle.pgs_world.proofs.Moments.{each_on, passes_on}
 use Rattle.pgs_run_evolve.specs.Evolving.{Kept, IsEvolving, IsEvolvingAt, IsRenewed, IsUnder}
-use Rattle.pgs_run_evolve.specs.Leaving.{EvolvesText, IsConforming, IsEvolvable, IsMade, LeavesEvolved, SavesAs, kept_of}
+use Rattle.pgs_run_evolve.specs.Leaving.{EvolvesText, IsConforming, IsEvolvable, IsMade, IsUnput, LeavesEvolved, SavesAs, kept_of}
 use Rattle.pgs_run_evolve.specs.Told.{line_of, told_new, told_text, told_verdict}
 use Rattle.pgs_run_evolve.proofs.Kept.{area_there, as_saved, evolved_in, next_there, renewed_in, same_renewed, saves_there}
-use Rattle.pgs_run_evolve.proofs.Leaving.{leaves_refused}
+use Rattle.pgs_run_evolve.proofs.Leaving.{Unput, leaves_refused}
 use Rattle.pgs_run_evolve.proofs.Unmoved.{evolved_none, evolving_here}
 use Rattle.pgs_run_evolve.proofs.Unlike.{IsUnlike, refused_unlike, schema_unlike, store_unlike}
 
@@ -60,6 +60,7 @@ pub record Refuses (told : Told Status) (text line : List ℕ) (status : Status)
   pub own : IsOwn true status
   pub may_end : IsOfCommand status
   pub unmade : (next : Option ℕ) (input : List ℕ) (graph : Graph) → IsMade next input graph status → ⊥
+  pub said : IsUnput status → ⊥
   pub told_is : told ≡ told_line line status
   pub unlike : IsUnlike line
   pub unfit : IsUnfit old text
@@ -75,9 +76,15 @@ evolves_refused told text line status result old new timed refuses put =
           let next = chosen_next old.shown.a old.shown.b in
           let same : input ≡ text = cc in
           by_last (λ (s : Status). IsMade next input graph s → ⊥) line status result old new (refuses.unmade next input graph)
-          (λ made. refuses.unfit tells before commits graph made.0 saves made.1 (subst (λ (t : List ℕ). IsConforming t graph) same made.2)) (λ made. made) put.ends);
+          (λ made. refuses.unfit tells before commits graph made.0 saves made.1 (subst (λ (t : List ℕ). IsConforming t graph) same made.2)) (λ made. made) put.ends)
+          (unput put.ends);
       settles = λ settled no. settled_images old new settled kept;
     }
+  where
+    unput : EndsLast line status PutFault Memory old result new → Unput old new result
+    unput (inl (inl whole)) is = absurd (refuses.said (subst IsUnput whole.0 is))
+    unput (inl (inr torn)) is = absurd (subst IsUnput torn.0 is)
+    unput (inr none) is = none.1
 
 -- ---- what is told of a text
 
@@ -118,6 +125,7 @@ refuses_text text why graph old is = record {
   own = tt;
   may_end = tt;
   unmade = λ next input graph made. made;
+  said = λ no. no;
   told_is = ap (λ (answer : Result Resolved (List ℕ)). told_under answer (λ read. told_verdict read (verdict read graph))) is;
   unlike = schema_unlike why;
   unfit = λ tells before commits graph number saves next conforming. let no : Ok conforming.0 ≡ Err why = sym conforming.1 ∙ is in cc;
@@ -130,6 +138,7 @@ refuses_old it view text ready first = record {
   own = refl;
   may_end = tt;
   unmade = λ next input graph made. made;
+  said = λ no. no;
   told_is = ap (λ (n : Option ℕ). told_new n text it.guard.graph) first;
   unlike = store_unlike old_format_text;
   unfit = λ tells before commits graph number saves next conforming. let no : Some number ≡ None = sym next ∙ next_there it view ready tells ∙ first in cc;
@@ -142,6 +151,7 @@ refuses_violated it view text violation read ready is violated = record {
   own = tt;
   may_end = tt;
   unmade = λ next input graph made. made;
+  said = λ no. no;
   told_is = told_by text it.guard.graph violated.0 read (Violated violation) is violated.1.0 violated.1.1;
   unlike = refused_unlike (violation_text violation);
   unfit = λ tells before commits graph number saves next conforming.
@@ -183,9 +193,9 @@ module _ (it : StoreState) (text : List ℕ) (old mid : View) (call : Evolving i
 
   -- what is left where the graph conforms to the text
   leaves_written : (resolved : Resolved) → Conforming it.guard text resolved → (new : View) (status : Status) → Passes old new → (IsTrue old.tells_output → IsSettled old → EachSince (IsEvolvingAt it_kept it.guard.text text) old new)
-      → (IsSettled old → EachSince (IsEvolving it_kept it.guard.text) old new) → KeepsArea (other it.journal.area) old new → (IsUnwritten status → ⊥)
+      → (IsSettled old → EachSince (IsEvolving it_kept it.guard.text) old new) → KeepsArea (other it.journal.area) old new → (IsUnwritten status → ⊥) → (IsUnput status → ⊥)
       → (IsTrue old.tells_bytes → (next : Option ℕ) (input : List ℕ) (graph : Graph) → IsMade next input graph status → IsRenewed it_kept text new.shown) → LeavesEvolved (Some text) old new status
-  leaves_written resolved conforming new status passes stops grows beside written made = record {
+  leaves_written resolved conforming new status passes stops grows beside written said made = record {
     passes = passes;
     stops = λ input before commits graph is saves tells settled.
         let same : text ≡ input = cc in
@@ -209,13 +219,14 @@ module _ (it : StoreState) (text : List ℕ) (old mid : View) (call : Evolving i
         let same : text ≡ input = cc in
         subst (λ (t : List ℕ). IsRenewed (kept_of old commits graph) t new.shown) same
         (as_saved it old call.ready tells before commits graph saves (λ t n g. IsRenewed (kept_of old n g) text new.shown) (made tells (chosen_next old.shown.a old.shown.b) input graph so));
+    unput = λ is. absurd (said is);
   }
 
   -- an area failed
   pub evolves_failed : (told : Told Status) → CountsFault true old mid → IsFitting it.guard text → EvolvesText told text old mid DiskFault
   evolves_failed told rose fits = record {
     answers = answers_failed told old mid shown rose call.beside.no_put.put_faults;
-    leaves = leaves_written fits.0 fits.1 mid DiskFault call.beside.passes during grows other_area (λ no. no) (λ tells next input graph made. absurd made);
+    leaves = leaves_written fits.0 fits.1 mid DiskFault call.beside.passes during grows other_area (λ no. no) (λ no. no) (λ tells next input graph made. absurd made);
     settles = λ settled no. absurd (no refl);
   }
 
@@ -254,6 +265,10 @@ module _ (it : StoreState) (text : List ℕ) (old mid : View) (call : Evolving i
     written (inl whole) is = subst IsUnwritten whole.0 is
     written (inr torn) is = subst IsUnwritten torn.0 is
 
+    said : EndsReply line Accepted PutFault mid result new → IsUnput result → ⊥
+    said (inl whole) is = subst IsUnput whole.0 is
+    said (inr torn) is = subst IsUnput torn.0 is
+
     pub evolves_made : (told : Told Status) → told ≡ told_line line Accepted → mid.area_faults ≡ old.area_faults → EvolvesText told text old new result
     evolves_made told is areas = record {
       answers = answers_line told line Accepted result old mid new (record { shown = shown; area_faults = areas; put_faults = call.beside.no_put.put_faults }) tt tt is
@@ -261,7 +276,7 @@ module _ (it : StoreState) (text : List ℕ) (old mid : View) (call : Evolving i
       leaves = leaves_written done.resolved done.conforming new result (passes_on old mid new call.beside.passes put.areas.passes)
           (λ tells settled. each_on old mid new (IsEvolvingAt it_kept it.guard.text text) call.beside.passes put.areas.passes (during tells settled) (putting tells settled))
           (λ settled. each_on old mid new (IsEvolving it_kept it.guard.text) call.beside.passes put.areas.passes (grows settled) (λ c left. inr (text, renewed_then settled c left)))
-          (area_on (other it.journal.area) old mid new other_area (area_of_images (other it.journal.area) mid new (images_areas mid new put.areas))) (written put.ends)
+          (area_on (other it.journal.area) old mid new other_area (area_of_images (other it.journal.area) mid new (images_areas mid new put.areas))) (written put.ends) (said put.ends)
           (λ tells next input graph made. same_renewed it_kept text mid.shown new.shown put.areas.a put.areas.b (in_force tells));
       settles = λ settled no. settled_images mid new (settled_mid settled) (images_areas mid new put.areas);
     }

@@ -1,6 +1,8 @@
 -- What is left of the world where it was only read, where a refusal was put, and by calls that come one after another.
-use Rattle.std.proofs.Common.{◌≡◌, inl, ℕ, IsTrue, List, ◌++◌, Option, Some, None, Result, Ok, refl, sym, ◌∙◌, ap, subst}
+use Rattle.std.proofs.Common.{◌≡◌, inl, ℕ, IsTrue, List, [], ◌++◌, Option, Some, None, Result, Ok, refl, sym, ◌∙◌, ap, subst}
 use Rattle.pgs_base.specs.Graph.{Graph}
+use Rattle.pgs_run_lines.specs.Pieces.{Shown, ShowsAll, shown_of}
+use Rattle.pgs_run_lines.proofs.Showing.{shows_none}
 use Rattle.pgs_command.specs.declared.status.Status.{Status}
 use Rattle.pgs_command.specs.declared.status.Status.TheVariants.{Accepted, PutFault}
 use Rattle.pgs_command.specs.Images.{KeepsImages}
@@ -19,7 +21,7 @@ use Rattle.pgs_world.specs.Moment.{EachSince, IsQuiet, IsSettled, IsTimed, Stops
 use Rattle.pgs_world.specs.World.{Triple, View, other}
 use Rattle.pgs_world.proofs.Moments.{each_on, each_quiet, passes_on, settled_quiet}
 use Rattle.pgs_run_evolve.specs.Evolving.{IsEvolving, IsEvolvingAt, IsRenewed}
-use Rattle.pgs_run_evolve.specs.Leaving.{LeavesEvolved, IsConforming, IsMade, SavesAs, kept_of}
+use Rattle.pgs_run_evolve.specs.Leaving.{LeavesEvolved, IsConforming, IsMade, IsUnput, SavesAs, kept_of}
 use Rattle.pgs_run_evolve.proofs.Unmoved.{same_under, settled_under, starts_at}
 use Rattle.pgs_run_evolve.proofs.Kept.{evolving_whole, renewed_whole, same_evolving}
 use Rattle.pgs_run_evolve.proofs.Unlike.{IsUnlike}
@@ -34,8 +36,11 @@ abbrev pub Unmade : Option (List ℕ) → View → Status → Type 0
 Unmade left old status = IsTrue old.tells_bytes → (input before : List ℕ) (commits : ℕ) (graph : Graph) → left ≡ Some input → SavesAs old before commits graph
     → IsMade (chosen_next old.shown.a old.shown.b) input graph status → ⊥
 
-pub leaves_kept : (left : Option (List ℕ)) (old new : View) (status : Status) → KeepsImages old new → Stops left old new → Unmade left old status → LeavesEvolved left old new status
-leaves_kept left old new status kept stops unmade = record {
+abbrev pub Unput : View → View → Status → Type 0
+Unput old new status = IsUnput status → ShowsAll (shown_of old) [] (shown_of new)
+
+pub leaves_kept : (left : Option (List ℕ)) (old new : View) (status : Status) → KeepsImages old new → Stops left old new → Unmade left old status → Unput old new status → LeavesEvolved left old new status
+leaves_kept left old new status kept stops unmade unput = record {
   passes = kept.passes;
   stops = stops;
   grows = λ before commits graph saves settled.
@@ -47,15 +52,20 @@ leaves_kept left old new status kept stops unmade = record {
   refused = λ tells input before commits graph is saves unfit. kept;
   beside = λ tells area is. area_of_images (other area) old new kept;
   made = λ tells input before commits graph is saves made. absurd (unmade tells input before commits graph is saves made);
+  unput = unput;
 }
 
+-- nothing was put
+pub shows_same : (start now : Shown) → now ≡ start → ShowsAll start [] now
+shows_same start now same = subst (λ (at : Shown). ShowsAll start [] at) (sym same) (shows_none start)
+
 -- the world was only read
-pub leaves_quiet : (left : Option (List ℕ)) (old new : View) (status : Status) → IsTimed old → IsQuiet old new → Unmade left old status → LeavesEvolved left old new status
-leaves_quiet left old new status timed quiet unmade =
+pub leaves_quiet : (left : Option (List ℕ)) (old new : View) (status : Status) → IsTimed old → IsQuiet old new → shown_of new ≡ shown_of old → Unmade left old status → LeavesEvolved left old new status
+leaves_quiet left old new status timed quiet same unmade =
     leaves_kept left old new status (images_quiet old new quiet)
     (λ input before commits graph is saves tells settled.
     each_quiet old new (IsEvolvingAt (kept_of old commits graph) before input) settled.honest quiet (starts_at old before commits graph saves input timed tells settled))
-    unmade
+    unmade (λ is. shows_same (shown_of old) (shown_of new) same)
 
 -- ---- a refusal was put
 
@@ -72,22 +82,23 @@ puts_at text line old new before commits graph unlike saves timed tells settled 
       evolved = λ schema is said. absurd (unlike schema put.front put.back put.parts said);
     }
 
-pub leaves_refused : (text line : List ℕ) (old new : View) (status : Status) → IsTimed old → KeepsImages old new → StopsBy (PutsFront line) old new → IsUnlike line → Unmade (Some text) old status → LeavesEvolved (Some text) old new status
-leaves_refused text line old new status timed kept stops unlike unmade =
+pub leaves_refused : (text line : List ℕ) (old new : View) (status : Status) → IsTimed old → KeepsImages old new → StopsBy (PutsFront line) old new → IsUnlike line → Unmade (Some text) old status → Unput old new status
+    → LeavesEvolved (Some text) old new status
+leaves_refused text line old new status timed kept stops unlike unmade unput =
     leaves_kept (Some text) old new status kept
     (λ input before commits graph is saves tells settled.
     let same : text ≡ input = cc in
     subst (λ (t : List ℕ). EachSince (IsEvolvingAt (kept_of old commits graph) before t) old new) same
     (puts_at text line old new before commits graph unlike saves timed tells settled stops))
-    unmade
+    unmade unput
 
 -- ---- one call after another
 
 abbrev SavesIn : Triple → List ℕ → ℕ → Graph → Type 0
 SavesIn c text commits graph = saved standard c.a c.b ≡ store text commits graph
 
-pub leaves_on : (left : Option (List ℕ)) (old mid new : View) (status : Status) → IsTimed old → IsQuiet old mid → LeavesEvolved left mid new status → LeavesEvolved left old new status
-leaves_on left old mid new status timed quiet later = record {
+pub leaves_on : (left : Option (List ℕ)) (old mid new : View) (status : Status) → IsTimed old → IsQuiet old mid → shown_of mid ≡ shown_of old → LeavesEvolved left mid new status → LeavesEvolved left old new status
+leaves_on left old mid new status timed quiet same later = record {
   passes = passes_on old mid new quiet.passes later.passes;
   stops = λ input before commits graph is saves tells settled.
       let P = IsEvolvingAt (kept_of old commits graph) before input in
@@ -113,6 +124,7 @@ leaves_on left old mid new status timed quiet later = record {
       subst (λ (t : Triple). IsRenewed (record { was = t; commits = commits; graph = graph }) input new.shown) quiet.shown
       (later.made (quiet.passes.tells_bytes ∙ tells) input before commits graph is (there before commits graph saves)
       (subst (λ (t : Triple). IsMade (chosen_next t.a t.b) input graph status) (sym quiet.shown) made));
+  unput = λ is. subst (λ (start : Shown). ShowsAll start [] (shown_of new)) same (later.unput is);
 }
   where
     kept : KeepsImages old mid
@@ -158,4 +170,5 @@ leaves_whole left text old new status front leaves = record {
       (subst (λ (t : List ℕ). IsRenewed (kept_of old commits graph) t new.shown) (front input is)
       (leaves.made tells text before commits graph refl saves
       (subst (λ (a : Result Resolved (List ℕ)). made_by next a graph status) (sym (ap schema_answer (front input is) ∙ schema_of_front input)) made)));
+  unput = leaves.unput;
 }

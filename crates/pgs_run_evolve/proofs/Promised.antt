@@ -5,7 +5,7 @@ use Rattle.pgs_run_lines.specs.Machine.{Told}
 use Rattle.pgs_run_lines.specs.Ending.{Faults, faults_of}
 use Rattle.pgs_run_lines.specs.Pieces.{Shown, shown_of}
 use Rattle.pgs_command.specs.declared.status.Status.{Status}
-use Rattle.pgs_command.specs.declared.status.Status.TheVariants.{DiskFault, InputTooLong}
+use Rattle.pgs_command.specs.declared.status.Status.TheVariants.{DiskFault}
 use Rattle.pgs_command.specs.Answers.{IsOfCommand}
 use Rattle.pgs_command.specs.Areas.{areas_of}
 use Rattle.pgs_command.specs.Ending.{Ends}
@@ -105,7 +105,7 @@ module _ (it : StoreState) (budget : ℕ) (old : Setting) (mid : View) (opening 
         (with_text (λ input. IsTrue old.view.tells_bytes) (λ input. told_evolve input (areas_of old.view)) (λ input. told_new next input graph) told_same budget old (record old { source = after; view = new }) text status (told_new next text graph) whole
         (λ input front asks. sym (front_told next input graph) ∙ ap (λ (t : List ℕ). told_new next t graph) (sym front)) (answers_opened (told_new next text graph) evolves.answers))
         evolves.answers.may_end
-        (leaves_on old.source.left old.view mid new status opening.timed opening.quiet
+        (leaves_on old.source.left old.view mid new status opening.timed opening.quiet opening.silent.shown
         (leaves_whole old.source.left text mid new status (λ input is. (whole_input budget old.source after text input is whole).0) evolves.leaves))
         (λ settled no. evolves.settles (settled_quiet old.view mid settled opening.quiet) no)
 
@@ -115,7 +115,7 @@ module _ (it : StoreState) (budget : ℕ) (old : Setting) (mid : View) (opening 
       promised after mid status
       (without_text (λ input. IsTrue old.view.tells_bytes) (λ input. told_evolve input (areas_of old.view)) (λ input. told_new it.journal.next input it.guard.graph) told_same budget old (record old { source = after; view = mid }) status unread opening.silent)
       (by_unread IsOfCommand budget old.source after status tt tt tt unread)
-      (leaves_quiet old.source.left old.view mid status opening.timed opening.quiet
+      (leaves_quiet old.source.left old.view mid status opening.timed opening.quiet opening.silent.shown
       (λ tells input before commits graph is saves.
       by_unread (λ (s : Status). IsMade (chosen_next old.view.shown.a old.view.shown.b) input graph s → ⊥) budget old.source after status (λ made. made) (λ made. made) (λ made. made) unread))
       (λ settled no. settled_quiet old.view mid settled opening.quiet)

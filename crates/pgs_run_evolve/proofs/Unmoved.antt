@@ -2,6 +2,8 @@
 use Rattle.std.proofs.Common.{◌≡◌, ◌⊎◌, inl, ℕ, IsTrue, List, [], ◌∷◌, Option, refl, sym, ap₂, subst, ◌∙◌}
 use Rattle.std.proofs.lemmas.List.{append-nil}
 use Rattle.pgs_base.specs.Graph.{Graph}
+use Rattle.pgs_run_lines.specs.Pieces.{shown_of}
+use Rattle.pgs_run_lines.proofs.Showing.{shows_none}
 use Rattle.pgs_command.specs.declared.status.Status.TheVariants.{Memory}
 use Rattle.pgs_command.proofs.Images.{area_none, images_none}
 use Rattle.pgs_run_input.specs.Session.{standard}
@@ -60,4 +62,5 @@ evolved_none left view timed = record {
   refused = λ tells input before commits graph is saves unfit. images_none view timed;
   beside = λ tells area is. area_none (other area) view timed;
   made = λ tells input before commits graph is saves made. absurd made;
+  unput = λ is. shows_none (shown_of view);
 }

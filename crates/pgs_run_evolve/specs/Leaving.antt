@@ -1,9 +1,10 @@
 -- What a run of `evolve`, and what is done with its text, leave of the world at every moment and at its end.
-use Rattle.std.specs.Prelude.{◌≡◌, ℕ, false, List, Option, Some, None, Ok, IsTrue}
+use Rattle.std.specs.Prelude.{◌≡◌, ℕ, false, List, [], Option, Some, None, Ok, IsTrue}
 use Rattle.pgs_base.specs.Graph.{Graph}
 use Rattle.pgs_run_lines.specs.Machine.{Told}
+use Rattle.pgs_run_lines.specs.Pieces.{ShowsAll, shown_of}
 use Rattle.pgs_command.specs.declared.status.Status.{Status}
-use Rattle.pgs_command.specs.declared.status.Status.TheVariants.{Accepted, DiskFault, PutFault}
+use Rattle.pgs_command.specs.declared.status.Status.TheVariants.{Accepted, DiskFault, ReadFault, PutFault, Memory, InputTooLong}
 use Rattle.pgs_run_input.specs.Answers.{schema_answer}
 use Rattle.pgs_command.specs.Images.{IsUnwritten, KeepsArea, KeepsImages}
 use Rattle.pgs_run_input.specs.Session.{standard}
@@ -37,6 +38,13 @@ IsMade next text graph Accepted = Unit {0}
 IsMade next text graph PutFault = (number : ℕ) × (next ≡ Some number) × IsConforming text graph
 IsMade next text graph status = ⊥
 
+-- with these statuses nothing was put
+abbrev pub IsUnput : Status → Type 0
+IsUnput ReadFault = Unit {0}
+IsUnput Memory = Unit {0}
+IsUnput InputTooLong = Unit {0}
+IsUnput status = ⊥
+
 pub record LeavesEvolved (left : Option (List ℕ)) (old new : View) (status : Status) : Type 0 where
   pub passes : Passes old new
   -- at every moment the store is saved as it was or under the new text, and the latter wherever its whole line is out
@@ -59,6 +67,8 @@ pub record LeavesEvolved (left : Option (List ℕ)) (old new : View) (status : S
   pub made : IsTrue old.tells_bytes → (input before : List ℕ) (commits : ℕ) (graph : Graph) → left ≡ Some input
       → SavesAs old before commits graph → IsMade (chosen_next old.shown.a old.shown.b) input graph status
       → IsRenewed (kept_of old commits graph) input new.shown
+  -- a fault of a read, want of memory and a cut come before the line is put
+  pub unput : IsUnput status → ShowsAll (shown_of old) [] (shown_of new)
 
 -- a store within the limits of the program, of which no call answered `DiskFault`, and which stands on the world
 pub record IsEvolvable (it : StoreState) (view : View) : Type 0 where

@@ -1,6 +1,5 @@
 -- The command `evolve`. It has nothing to read its source for where the areas save no store.
-use Rattle.std.specs.Prelude.{◌≡◌, ℕ, true, List, IsTrue, refl, []}
-use Rattle.pgs_command.specs.declared.status.Status.{Status}
+use Rattle.std.specs.Prelude.{◌≡◌, ℕ, true, List, IsTrue, []}
 use Rattle.pgs_command.specs.Answers.{IsOfCommand}
 use Rattle.pgs_command.specs.Spec.{CommandSpec}
 use Rattle.pgs_base.specs.Graph.{Graph}

@@ -18,7 +18,8 @@ use std::alloc::Global;
 ///
 /// `SchemaRefused` is a refusal of the stored text or of the new one; `StoreRefused` is 30, 32, 33 and 34 as for every command over a
 /// saved store, and 41 for a store of the first format; `Refused` where the graph has a violation under the new schema. After these, and
-/// after want of memory, both areas are what they were at every moment. `DiskFault` comes only where the count of area faults rose.
+/// after want of memory, both areas are what they were at every moment. After want of memory, a fault of a read and a cut nothing was put.
+/// `DiskFault` comes only where the count of area faults rose.
 pub fn run_evolve<S: Source, W: World>(
     alloc: Global,
     source: &mut S,

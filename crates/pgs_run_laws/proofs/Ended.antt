@@ -1,5 +1,5 @@
 -- A run that ended with any status but 5 leads from what the areas hold to what they hold behind it.
-use Rattle.std.proofs.Common.{◌≡◌, ◌⊎◌, inl, inr, ⊎_elim, ℕ, zero, suc, ◌+◌, ◌^◌, Bool, true, false, nat_le, IsTrue, List, [], ◌∷◌, ◌++◌, length, take, drop, Option, Some, None, Result, Ok, Err, refl, sym, ap, ap₂, subst, ◌∙◌, append_assoc, length-append, arith, if◌then◌else◌}
+use Rattle.std.proofs.Common.{◌≡◌, ◌⊎◌, inl, inr, ⊎_elim, ℕ, zero, suc, ◌+◌, ◌^◌, ◌==◌, Bool, true, false, nat_le, IsTrue, List, [], ◌∷◌, ◌++◌, length, take, drop, Option, Some, None, Result, Ok, Err, refl, sym, ap, ap₂, subst, ◌∙◌, append_assoc, length-append, arith, if◌then◌else◌}
 use Rattle.std.proofs.lemmas.List.{append-nil, take-append-drop}
 use Rattle.pgs_answer.specs.Lines.{words_refused_line}
 use Rattle.pgs_answer.specs.Refusals.{already_store_text, no_store_text}
@@ -36,17 +36,21 @@ use Rattle.pgs_command.specs.Spec.{CommandSpec}
 use Rattle.pgs_command.specs.Words.{refused_words}
 use Rattle.pgs_run_apply.specs.Run.{IsDecided, IsPutBy, Saves}
 use Rattle.pgs_run_apply.specs.Told.{after, all_lines, last_piece, lost_pieces, start, status_after, told_apply, told_lines, verdicts, with_last}
+use Rattle.pgs_run_checkpoint.specs.Leaving.{IsRenewed, IsTorn}
+use Rattle.pgs_run_checkpoint.specs.Leaving.{IsUnput as IsUnrenewed}
 use Rattle.pgs_run_checkpoint.specs.Told.{told_by, told_checkpoint}
 use Rattle.pgs_run_evolve.specs.Leaving.{IsConforming}
 use Rattle.pgs_run_evolve.specs.Leaving.{IsMade as MadeAt}
+use Rattle.pgs_run_evolve.specs.Leaving.{IsUnput as IsUnevolved}
 use Rattle.pgs_run_evolve.specs.Told.{told_evolve, told_input}
+use Rattle.pgs_run_load.specs.Leaving.{IsUnput as IsUnloaded}
 use Rattle.pgs_run_load.specs.Loading.{IsMade}
 use Rattle.pgs_run_load.specs.Told.{told_choice, told_load}
 use Rattle.pgs_run_store.specs.Dump.{told_dump}
 use Rattle.pgs_run_store.specs.Refusing.{SavedStore, store_refused, told_of_areas, told_saved, told_under}
 use Rattle.pgs_run.specs.Commands.{spec_named, spec_of}
 use Rattle.pgs_run_laws.specs.Crashes.{RanInto, Stands, after_lines}
-use Rattle.pgs_run_laws.specs.Endings.{AddUp, DoesTo, Done, Held, Holding, Holds, IsAppliedTo, IsOut, Leads, LeadsTo, Loaded, Misread, Misreads, Nothing, RanTo, Recovered, RunAll, ShowsButLast, Step, evolved_to, loaded_of, loaded_to, told_step}
+use Rattle.pgs_run_laws.specs.Endings.{AddUp, DoesTo, Done, Held, Holding, Holds, IsAppliedTo, IsOut, IsSilent, Leads, LeadsTo, Loaded, Misread, Misreads, Nothing, RanTo, Recovered, RunAll, ShowsButLast, Step, evolved_to, loaded_of, loaded_to, told_step}
 use Rattle.pgs_run_laws.specs.Sequence.{Applied, Deed, Evolved, Renewed, under_text, under_verdict}
 use Rattle.pgs_run_laws.proofs.AddUp.{same_epoch, told_evolved, told_renewed, told_stands}
 use Rattle.pgs_run_laws.proofs.Crashed.{none_or_store, none_saved}
@@ -168,13 +172,6 @@ record Led (step : Step) (status : Status) (was : Held) (old new : View) : Type 
   pub now : Held
   pub holds : Holds now new
   pub to : LeadsTo step status was (chosen_next old.shown.a old.shown.b) (shown_of old) now (shown_of new)
-
--- a whole store has an epoch
-some_epoch : (c : Choice) (text : List ℕ) (commits : ℕ) (graph : Graph) → saved_by standard c ≡ store text commits graph → (epoch : ℕ) × (epoch_chosen c ≡ Some epoch)
-some_epoch choices.no_store text commits graph saves = absurd (let no : states.no_store ≡ store text commits graph = saves in cc)
-some_epoch choices.foreign text commits graph saves = absurd (let no : states.foreign ≡ store text commits graph = saves in cc)
-some_epoch (choices.damaged area epoch number) text commits graph saves = (epoch, refl)
-some_epoch (choices.chosen area epoch end next payloads) text commits graph saves = (epoch, refl)
 
 -- the statuses of what lines tell
 abbrev IsOfLines : Status → Type 0
@@ -373,19 +370,25 @@ module _ (input : List ℕ) (lost : ℕ) (old new : View) where
         tells = p.leaves.passes.tells_bytes ∙ stands.tells;
       }
 
+      next_chosen : IsRenewed old.shown new.shown → chosen_epoch new.shown.a new.shown.b ≡ Some (epoch + 1)
+      next_chosen renewed =
+          ap epoch_chosen renewed.choice ∙ ap (λ (n : ℕ). Some (n + 1)) (same_epoch renewed.epoch epoch (sym renewed.was_epoch ∙ stands.epoch_is))
+
+      -- a line was being put: at the last epoch that of a refusal
+      torn_by : (PutFault ≡ DiskFault → ⊥) → BegunRenewing PutFault → (last : Bool) → (epoch == 16777215) ≡ last → IsTorn (told_by (Some epoch) it).status old new → LedBy Renewed PutFault
+      torn_by sound p true e torn =
+          let kept : KeepsImages old new = rw e at torn in
+          record { now = Holding it epoch; holds = by_images (Holding it epoch) old new stands kept; to = rw e refl }
+      torn_by sound p false e torn =
+          let renewed : IsRenewed old.shown new.shown = rw e at torn in
+          record { now = Holding it (epoch + 1); holds = renewed_as (epoch + 1) PutFault sound p (next_chosen renewed); to = rw e refl }
+
       renews_at : (s : Status) → (s ≡ DiskFault → ⊥) → BegunRenewing s → LedBy Renewed s
       renews_at Accepted sound p =
-          let renewed = p.leaves.renewed stands.tells refl in
-          record {
-            now = Holding it (epoch + 1);
-            holds = renewed_as (epoch + 1) Accepted sound p
-                (ap epoch_chosen renewed.choice ∙ ap (λ (n : ℕ). Some (n + 1)) (same_epoch renewed.epoch epoch (sym renewed.was_epoch ∙ stands.epoch_is)));
-            to = refl;
-          }
+          record { now = Holding it (epoch + 1); holds = renewed_as (epoch + 1) Accepted sound p (next_chosen (p.leaves.renewed stands.tells refl)); to = refl }
       renews_at PutFault sound p =
-          let saves = saved_choice new (store it.text it.commits it.graph) (p.leaves.kept stands.tells sound ∙ stands.saves.saves) in
-          let later = some_epoch (choice_of new.shown.a new.shown.b) it.text it.commits it.graph saves in
-          record { now = Holding it later.0; holds = renewed_as later.0 PutFault sound p later.1; to = (later.0, refl) }
+          torn_by sound p (epoch == 16777215) refl
+          (subst (λ (t : Told Status). IsTorn t.status old new) (told_renewed it epoch old stands) (p.leaves.torn stands.tells refl))
       renews_at DiskFault sound p = absurd (sound refl)
       renews_at Refused sound p = same_led Renewed Refused refl (p.leaves.unwritten tt)
       renews_at BadWords sound p = same_led Renewed BadWords refl (p.leaves.unwritten tt)
@@ -583,8 +586,23 @@ module _ (status : Status) (was : Held) (old new : View) (holds : Holds was old)
   printed command input lost said run is =
       subst (λ (s : Status). Ends (shown_of old) said s (shown_of new)) run.is (prints command input lost old new run.ran said is (tells_of was old holds))
 
-  leads_by : (step : Step) → Led step status was old new → Ends (shown_of old) (told_step step was next) status (shown_of new) → (now : Held) × Leads step status was old now new
-  leads_by step led out = (led.now, record { holds = led.holds; to = led.to; prints = out })
+  leads_by : (step : Step) → Led step status was old new → Ends (shown_of old) (told_step step was next) status (shown_of new) → (IsSilent step status → ShowsAll (shown_of old) [] (shown_of new))
+      → (now : Held) × Leads step status was old now new
+  leads_by step led out silent = (led.now, record { holds = led.holds; to = led.to; prints = out; silent = silent })
+
+-- nothing is out with a fault of a read, want of memory or a cut
+module _ (input : List ℕ) (lost : ℕ) (status : Status) (old new : View) where
+  none_out : shown_of new ≡ shown_of old → ShowsAll (shown_of old) [] (shown_of new)
+  none_out same = subst (λ (now : Shown). ShowsAll (shown_of old) [] now) (sym same) (shows_none (shown_of old))
+
+  silent_load : RanTo Load input lost status old new → IsUnloaded status → ShowsAll (shown_of old) [] (shown_of new)
+  silent_load run is = by_run Load input lost old new run.ran (λ u. none_out u.shown) (λ p. p.leaves.unput (subst IsUnloaded (sym run.is) is))
+
+  silent_checkpoint : RanTo Checkpoint input lost status old new → IsUnrenewed status → ShowsAll (shown_of old) [] (shown_of new)
+  silent_checkpoint run is = by_run Checkpoint input lost old new run.ran (λ u. none_out u.shown) (λ p. p.leaves.unput (subst IsUnrenewed (sym run.is) is))
+
+  silent_evolve : RanTo Evolve input lost status old new → IsUnevolved status → ShowsAll (shown_of old) [] (shown_of new)
+  silent_evolve run is = by_run Evolve input lost old new run.ran (λ u. none_out u.shown) (λ p. p.leaves.unput (subst IsUnevolved (sym run.is) is))
 
 led_load : (text : List ℕ) (lost : ℕ) (status : Status) (was : Held) (old new : View) → Holds was old → RanTo Load text lost status old new → Led (Loaded text) status was old new
 led_load text lost status Nothing old new holds run =
@@ -610,25 +628,29 @@ leads (Loaded text) status was old new holds run =
     leads_by status was old new holds (Loaded text) (led_load text run.0 status was old new holds run.1)
     (printed status was old new holds Load text run.0 (told_step (Loaded text) was (chosen_next old.shown.a old.shown.b)) run.1
     (λ choice. told_loads text was old holds (chosen_next old.shown.a old.shown.b)))
+    (silent_load text run.0 status old new run.1)
 leads (Done (Applied input lost)) status was old new holds run =
     let step = Done (Applied input lost) in
     let out = printed status was old new holds Apply input lost (told_step step was (chosen_next old.shown.a old.shown.b)) run
     (λ choice. told_applies input lost was old holds (chosen_next old.shown.a old.shown.b)) in
-    leads_by status was old new holds step (led_apply input lost status was old new holds run out) out
+    leads_by status was old new holds step (led_apply input lost status was old new holds run out) out (λ no. absurd no)
 leads (Done Renewed) status was old new holds run =
     leads_by status was old new holds (Done Renewed) (led_checkpoint run.0 run.1 status was old new holds run.2)
     (printed status was old new holds Checkpoint run.0 run.1 (told_step (Done Renewed) was (chosen_next old.shown.a old.shown.b)) run.2
     (λ choice. told_renews was old holds (chosen_next old.shown.a old.shown.b)))
+    (silent_checkpoint run.0 run.1 status old new run.2)
 leads (Done (Evolved input)) status was old new holds run =
     leads_by status was old new holds (Done (Evolved input)) (led_evolve input run.0 status was old new holds run.1)
     (printed status was old new holds Evolve input run.0 (told_step (Done (Evolved input)) was (chosen_next old.shown.a old.shown.b)) run.1
     (λ choice. told_evolves input was old holds))
+    (silent_evolve input run.0 status old new run.1)
 leads Recovered status was old new holds run =
     leads_by status was old new holds Recovered (record { now = was; holds = recovers run.0 run.1 old new was holds run.2.ran; to = refl })
     (printed status was old new holds Recover run.0 run.1 (told_step Recovered was (chosen_next old.shown.a old.shown.b)) run.2
     (λ choice. told_of was old holds (chosen_next old.shown.a old.shown.b)))
+    (λ no. absurd no)
 leads Misread status was old new holds run =
-    leads_by status was old new holds Misread (record { now = was; holds = misread_holds status old new run was holds; to = refl }) (misread_prints status old new run)
+    leads_by status was old new holds Misread (record { now = was; holds = misread_holds status old new run was holds; to = refl }) (misread_prints status old new run) (λ no. absurd no)
 
 pub add_up : {W : Type 0} (view : W → View) (steps : List (Step × Status)) (was : Held) (first last : W) → Holds was (view first) → (ran : RunAll view steps first last)
     → (now : Held) × AddUp view steps first last ran was now

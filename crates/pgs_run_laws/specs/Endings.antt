@@ -1,5 +1,5 @@
 -- What runs of any status but 5 lead to, one after another over one world: what the areas hold behind each, and what each prints.
-use Rattle.std.specs.Prelude.{◌≡◌, ◌⊎◌, ℕ, ◌+◌, List, [], ◌∷◌, ◌++◌, length, Option, Some, None, Result, Ok, Err, IsTrue, nat_le, if◌then◌else◌}
+use Rattle.std.specs.Prelude.{◌≡◌, ◌⊎◌, ℕ, ◌+◌, ◌==◌, List, [], ◌∷◌, ◌++◌, length, Option, Some, None, Result, Ok, Err, IsTrue, nat_le, if◌then◌else◌}
 use Rattle.std.specs.List.{concat}
 use Rattle.std.specs.Option.{option_map}
 use Rattle.pgs_answer.specs.Lines.{words_refused_line}
@@ -22,8 +22,11 @@ use Rattle.pgs_command.specs.Promise.{Runs}
 use Rattle.pgs_command.specs.Setting.{SourceState}
 use Rattle.pgs_run_input.specs.Answers.{schema_answer}
 use Rattle.pgs_run_apply.specs.Told.{verdicts, all_lines, lost_pieces, told_lines, with_last}
+use Rattle.pgs_run_checkpoint.specs.Leaving.{IsUnput as IsUnrenewed}
 use Rattle.pgs_run_checkpoint.specs.Told.{told_by}
+use Rattle.pgs_run_evolve.specs.Leaving.{IsUnput as IsUnevolved}
 use Rattle.pgs_run_evolve.specs.Told.{told_input}
+use Rattle.pgs_run_load.specs.Leaving.{IsUnput as IsUnloaded}
 use Rattle.pgs_run_load.specs.Told.{line_of}
 use Rattle.pgs_run_store.specs.Dump.{told_dump}
 use Rattle.pgs_run_store.specs.Refusing.{SavedStore, store_refused, told_under}
@@ -97,10 +100,14 @@ pub record IsAppliedTo (it : SavedStore) (epoch : ℕ) (input : List ℕ) (lost 
   pub held : now ≡ Holding (after_lines it until) epoch
   pub out : IsOut (verdicts it until) more lost status start end
 
--- `checkpoint`: the same store; of the next epoch with 0, and with 7, where the line was being put, of any one; else of the same
+-- the next epoch; the last one has none
+abbrev pub next_epoch : ℕ → ℕ
+next_epoch epoch = if epoch == 16777215 then epoch else epoch + 1
+
+-- `checkpoint`: the same store; of the next epoch with 0, and with 7, where the line of one was being put; else of the same
 abbrev pub IsRenewedTo : SavedStore → ℕ → Status → Held → Type 0
 IsRenewedTo it epoch Accepted now = now ≡ Holding it (epoch + 1)
-IsRenewedTo it epoch PutFault now = (later : ℕ) × (now ≡ Holding it later)
+IsRenewedTo it epoch PutFault now = now ≡ Holding it (next_epoch epoch)
 IsRenewedTo it epoch status now = now ≡ Holding it epoch
 
 -- `evolve`: the store under the new schema with 0, and with 7, where the line of a schema in force was being put; else as it was
@@ -137,12 +144,22 @@ LeadsTo (Done deed) status (Holding it epoch) next start now end = LeadsBy deed 
 LeadsTo Recovered status was next start now end = now ≡ was
 LeadsTo Misread status was next start now end = now ≡ was
 
+-- with 6, 8 and 9 nothing is out of a run whose one line comes last
+abbrev pub IsSilent : Step → Status → Type 0
+IsSilent (Loaded text) status = IsUnloaded status
+IsSilent (Done (Applied input lost)) status = ⊥
+IsSilent (Done Renewed) status = IsUnrenewed status
+IsSilent (Done (Evolved input)) status = IsUnevolved status
+IsSilent Recovered status = ⊥
+IsSilent Misread status = ⊥
+
 -- A run that ended so leads from what the areas held to what they hold, and prints this, by the status: all that is told and the told status
--- with 0 to 4 and 9, some first pieces with 6 and 8, and with 7 some first ones and a front of the next.
+-- with 0 to 4 and 9, some first pieces with 6 and 8, of which `load`, `checkpoint` and `evolve` have none, and with 7 some first ones and a front of the next.
 pub record Leads (step : Step) (status : Status) (was : Held) (old : View) (now : Held) (new : View) : Type 0 where
   pub holds : Holds now new
   pub to : LeadsTo step status was (chosen_next old.shown.a old.shown.b) (shown_of old) now (shown_of new)
   pub prints : Ends (shown_of old) (told_step step was (chosen_next old.shown.a old.shown.b)) status (shown_of new)
+  pub silent : IsSilent step status → ShowsAll (shown_of old) [] (shown_of new)
 
 -- ---- runs
 

@@ -78,7 +78,8 @@ pub fn a_dump_is_validated<V: World, W: World>()
 /// Runs add up. Over one world that tells its bytes, whose areas hold nothing or a store: runs of `load`, `apply`, `checkpoint`, `evolve` and
 /// `recover`, and of words that are no command, in any order, each ended with any status but 5, lead from what the areas hold to what they
 /// hold behind it (`Leads`). With 0 and 1 a run did all; with 2, 3 and 4 it added nothing; with 6, 8 and 9 `apply` added the lines whose
-/// verdicts are out, and the others nothing; with 7 that, or one more, the change whose line was being put, and a front of that line is out.
+/// verdicts are out, and the others nothing, of which `load`, `checkpoint` and `evolve` put nothing either; with 7 that, or one more, the change
+/// whose line was being put, and a front of that line is out.
 ///
 /// So where each ended with 0 or 1, `load` of a schema over free areas, then runs of `apply`, `checkpoint` and `evolve`, then `recover`
 /// print what deciding the lines of all inputs in order prints: each run's lines numbered from 1, the commit numbers going on; of `evolve`

@@ -1,5 +1,7 @@
 -- What is left where both areas are what they were, and of an input by what is left of its front.
-use Rattle.std.proofs.Common.{◌≡◌, inl, ℕ, IsTrue, List, Option, Some, Result, Ok, refl, sym, ap, subst, ◌∙◌}
+use Rattle.std.proofs.Common.{◌≡◌, inl, ℕ, IsTrue, List, [], Option, Some, Result, Ok, refl, sym, ap, subst, ◌∙◌}
+use Rattle.pgs_run_lines.specs.Pieces.{Shown, ShowsAll, shown_of}
+use Rattle.pgs_run_lines.proofs.Showing.{shows_none}
 use Rattle.pgs_store.specs.Loads.{FindsNone}
 use Rattle.pgs_syntax.specs.declared.resolved.Resolved.{Resolved}
 use Rattle.pgs_world.specs.declared.area.Area.TheVariants.{B}
@@ -13,7 +15,7 @@ use Rattle.pgs_command.proofs.Images.{area_of_images, each_images, images_quiet}
 use Rattle.pgs_run_input.specs.Answers.{schema_answer}
 use Rattle.pgs_run_input.specs.Input.{text_front}
 use Rattle.pgs_run_input.proofs.SameFronts.{schema_of_front}
-use Rattle.pgs_run_load.specs.Leaving.{LeavesLoaded}
+use Rattle.pgs_run_load.specs.Leaving.{IsUnput, LeavesLoaded}
 use Rattle.pgs_run_load.specs.Loading.{IsLoading, IsLoadingAt, IsMade, IsNewStore}
 use Rattle.pgs_run_load.proofs.Unmoved.{starts_at, starts_empty}
 use Rattle.pgs_run_load.proofs.Stops.{loading_whole, new_whole, same_loading}
@@ -22,8 +24,9 @@ use Rattle.pgs_run_load.proofs.Stops.{loading_whole, new_whole, same_loading}
 
 pub leaves_kept : (left : Option (List ℕ)) (old new : View) (status : Status) → KeepsImages old new
     → ((input : List ℕ) → left ≡ Some input → FindsNone old → IsTrue old.tells_output → IsSettled old → EachSince (IsLoadingAt old.shown input) old new)
-    → ((input : List ℕ) → left ≡ Some input → FindsNone old → IsTrue old.tells_bytes → IsMade input status → ⊥) → LeavesLoaded left old new status
-leaves_kept left old new status kept stops unmade = record {
+    → ((input : List ℕ) → left ≡ Some input → FindsNone old → IsTrue old.tells_bytes → IsMade input status → ⊥)
+    → (IsUnput status → ShowsAll (shown_of old) [] (shown_of new)) → LeavesLoaded left old new status
+leaves_kept left old new status kept stops unmade unput = record {
   passes = kept.passes;
   stops = stops;
   grows = λ free settled. each_images old new IsLoading settled.honest same_loading kept (λ c may. inl (starts_empty old free settled c may));
@@ -32,13 +35,19 @@ leaves_kept left old new status kept stops unmade = record {
   unwritten = λ is. kept;
   beside = area_of_images B old new kept;
   made = λ tells input is free made. absurd (unmade input is free tells made);
+  unput = unput;
 }
 
+-- nothing was put
+pub shows_same : (start now : Shown) → now ≡ start → ShowsAll start [] now
+shows_same start now same = subst (λ (at : Shown). ShowsAll start [] at) (sym same) (shows_none start)
+
 -- the world was only read
-pub leaves_quiet : (left : Option (List ℕ)) (old new : View) (status : Status) → IsTimed old → IsQuiet old new → ((input : List ℕ) → IsMade input status → ⊥) → LeavesLoaded left old new status
-leaves_quiet left old new status timed quiet unmade =
+pub leaves_quiet : (left : Option (List ℕ)) (old new : View) (status : Status) → IsTimed old → IsQuiet old new → shown_of new ≡ shown_of old → ((input : List ℕ) → IsMade input status → ⊥) → LeavesLoaded left old new status
+leaves_quiet left old new status timed quiet same unmade =
     leaves_kept left old new status (images_quiet old new quiet)
     (λ input is free tells settled. each_quiet old new (IsLoadingAt old.shown input) settled.honest quiet (starts_at old input timed free tells settled)) (λ input is free tells made. unmade input made)
+    (λ is. shows_same (shown_of old) (shown_of new) same)
 
 -- ---- the front of an input
 
@@ -63,6 +72,7 @@ leaves_whole left text old new status front leaves = record {
       new_whole input new.shown
       (subst (λ (t : List ℕ). IsNewStore t new.shown) (front input is)
       (leaves.made tells text refl free (subst (λ (a : Result Resolved (List ℕ)). made_by a status) (sym (same input is)) made)));
+  unput = leaves.unput;
 }
   where
     same : (input : List ℕ) → left ≡ Some input → schema_answer text ≡ schema_answer input

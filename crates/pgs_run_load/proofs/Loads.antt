@@ -1,11 +1,11 @@
 -- What the loading of a text does, by what its calls did.
-use Rattle.std.proofs.Common.{◌≡◌, inl, inr, ℕ, true, IsTrue, List, ◌++◌, Some, Ok, Err, refl, sym, ap, ap₂, subst, ◌∙◌}
+use Rattle.std.proofs.Common.{◌≡◌, inl, inr, ℕ, true, IsTrue, List, [], ◌++◌, Some, Ok, Err, refl, sym, ap, ap₂, subst, ◌∙◌}
 use Rattle.pgs_answer.specs.Lines.{schema_refused_line, store_refused_line}
 use Rattle.pgs_answer.specs.Refusals.{already_store_text}
 use Rattle.pgs_resolve.specs.SchemaOf.{schema, schema_of}
 use Rattle.pgs_run_lines.specs.Machine.{Told}
-use Rattle.pgs_run_lines.specs.Pieces.{shown_of}
-use Rattle.pgs_run_lines.specs.Replies.{EndsReply, PutsReply}
+use Rattle.pgs_run_lines.specs.Pieces.{Shown, ShowsAll, shown_of}
+use Rattle.pgs_run_lines.specs.Replies.{EndsLast, EndsReply, PutsReply}
 use Rattle.pgs_snapshot.specs.Choice.{Choice, choice_of, no_store}
 use Rattle.pgs_snapshot.specs.Choice as choices
 use Rattle.pgs_snapshot.specs.Saved.{saved}
@@ -30,7 +30,7 @@ use Rattle.pgs_run_input.specs.Session.{standard}
 use Rattle.pgs_run_input.proofs.Answering.{answer_ok}
 use Rattle.pgs_run_input.proofs.OneLine.{IsSilent, PutsLine, answers_failed, answers_line, answers_none, line_of_reply, same_shown, told_line}
 use Rattle.pgs_run_store.specs.Refusing.{store_refused, told_under}
-use Rattle.pgs_run_load.specs.Leaving.{LoadsText}
+use Rattle.pgs_run_load.specs.Leaving.{IsUnput, LoadsText}
 use Rattle.pgs_run_load.specs.Loading.{IsLoading, IsLoadingAt, IsMade, IsNewStore, TellsFor}
 use Rattle.pgs_run_load.specs.Told.{line_of, told_choice, told_text}
 use Rattle.pgs_run_load.proofs.Unmoved.{starts_at, starts_empty}
@@ -49,7 +49,7 @@ loads_none text old new timed quiet silent = record {
   told = told_text text (areas_of old);
   is_told = λ tells. refl;
   answers = answers_none (told_text text (areas_of old)) old new silent;
-  leaves = leaves_quiet (Some text) old new Memory timed quiet (λ input made. made);
+  leaves = leaves_quiet (Some text) old new Memory timed quiet silent.shown (λ input made. made);
   settles = λ settled no. settled_quiet old new settled quiet;
 }
 
@@ -58,6 +58,7 @@ pub record Refuses (text line : List ℕ) (status : Status) (old : View) : Type 
   pub own : IsOwn true status
   pub may_end : IsOfCommand status
   pub unmade : (text : List ℕ) → IsMade text status → ⊥
+  pub said : IsUnput status → ⊥
   pub told : TellsFor text old → told_text text (areas_of old) ≡ told_line line status
   pub unfit : FindsNone old → IsTrue old.tells_bytes → (resolved : Resolved) → schema_answer text ≡ Ok resolved → ⊥
 
@@ -66,6 +67,7 @@ refuses_text text why old is = record {
   own = tt;
   may_end = tt;
   unmade = λ text made. made;
+  said = λ no. no;
   told = λ tells. ap (λ answer. told_under answer (λ s. told_choice s (choice_of old.shown.a old.shown.b))) is;
   unfit = λ free tells resolved good. let no : Ok resolved ≡ Err why = sym good ∙ is in cc;
 }
@@ -83,6 +85,7 @@ refuses_areas text why resolved old of_text refused = record {
   own = refl;
   may_end = tt;
   unmade = λ text made. made;
+  said = λ no. no;
   told = λ tells.
       let is = answer_ok text resolved of_text in
       told_schema text (areas_of old) resolved (choice_of old.shown.a old.shown.b) is refl ∙ refused (tells resolved is);
@@ -107,12 +110,18 @@ loads_refused text line status result old mid new timed quiet silent refuses put
       each_on old mid new P quiet.passes put.areas.passes (each_quiet old mid P settled.honest quiet (starts_at old input timed free tells settled)) (putting input (same input is) free tells settled))
       (λ input is free tells.
       by_last (λ (s : Status). IsMade input s → ⊥) line status result mid new (refuses.unmade input)
-      (λ made. unfit input (same input is) free tells made.0 made.1) (λ made. made) put.ends);
+      (λ made. unfit input (same input is) free tells made.0 made.1) (λ made. made) put.ends)
+      (λ is. subst (λ (start : Shown). ShowsAll start [] (shown_of new)) silent.shown (unput put.ends is));
   settles = λ settled no. settled_images old new settled kept;
 }
   where
     kept : KeepsImages old new
     kept = images_on old mid new (images_quiet old mid quiet) (images_areas mid new put.areas)
+
+    unput : EndsLast line status PutFault Memory mid result new → IsUnput result → ShowsAll (shown_of mid) [] (shown_of new)
+    unput (inl (inl whole)) is = absurd (refuses.said (subst IsUnput whole.0 is))
+    unput (inl (inr torn)) is = absurd (subst IsUnput torn.0 is)
+    unput (inr none) is = none.1
 
     same : (input : List ℕ) → Some text ≡ Some input → input ≡ text
     same input is = cc
@@ -171,6 +180,7 @@ module _ (text : List ℕ) (resolved : Resolved) (of_text : schema_of text ≡ s
       unwritten = λ no. absurd no;
       beside = other_area;
       made = λ tells input is free made. absurd made;
+      unput = λ is. absurd is;
     };
     settles = λ settled no. absurd (no refl);
   }
@@ -212,6 +222,10 @@ module _ (text : List ℕ) (resolved : Resolved) (of_text : schema_of text ≡ s
     written (inl whole) is = subst IsUnwritten whole.0 is
     written (inr torn) is = subst IsUnwritten torn.0 is
 
+    said : EndsReply (line_of store.guard.schema) Accepted PutFault mid result new → IsUnput result → ⊥
+    said (inl whole) is = subst IsUnput whole.0 is
+    said (inr torn) is = subst IsUnput torn.0 is
+
     pub loads_made : LoadsText text old new result
     loads_made = record {
       told = told_line (line_of store.guard.schema) Accepted;
@@ -234,6 +248,7 @@ module _ (text : List ℕ) (resolved : Resolved) (of_text : schema_of text ≡ s
         made = λ tells input is free made.
             let same : text ≡ input = cc in
             subst (λ (t : List ℕ). IsNewStore t new.shown) same (same_new text mid.shown new.shown kept.a kept.b (there tells));
+        unput = λ is. absurd (said put.ends is);
       };
       settles = λ settled no. settled_images mid new (settled_mid settled) kept;
     }

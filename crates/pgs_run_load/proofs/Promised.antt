@@ -68,6 +68,6 @@ promised_none budget old after status timed unread =
     promised budget old new status refl
     (without_text (λ input. TellsFor input old.view) (λ input. told_load input (areas_of old.view)) (λ input. told_text input (areas_of old.view)) (λ input asks n. tells (areas_of old.view) input n) budget old new status unread (silent_none old.view))
     (by_unread IsOfCommand budget old.source after status tt tt tt unread)
-    (leaves_quiet old.source.left old.view old.view status timed (quiet_none old.view timed)
+    (leaves_quiet old.source.left old.view old.view status timed (quiet_none old.view timed) refl
     (λ input. by_unread (λ (s : Status). IsMade input s → ⊥) budget old.source after status (λ made. made) (λ made. made) (λ made. made) unread))
     (λ settled no. settled)

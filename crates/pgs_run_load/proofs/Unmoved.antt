@@ -1,6 +1,8 @@
 -- What is left where nothing was done.
 use Rattle.std.proofs.Common.{◌≡◌, ◌⊎◌, inl, ℕ, IsTrue, List, [], ◌∷◌, Option, sym, ap₂, subst, ◌∙◌}
 use Rattle.std.proofs.lemmas.List.{append-nil}
+use Rattle.pgs_run_lines.specs.Pieces.{shown_of}
+use Rattle.pgs_run_lines.proofs.Showing.{shows_none}
 use Rattle.pgs_snapshot.specs.Choice.{choice_of}
 use Rattle.pgs_snapshot.specs.Choice as choices
 use Rattle.pgs_snapshot.specs.Saved.{saved, no_store}
@@ -51,4 +53,5 @@ loaded_none left view timed = record {
   unwritten = λ is. images_none view timed;
   beside = area_none B view timed;
   made = λ tells input is free made. absurd made;
+  unput = λ is. shows_none (shown_of view);
 }

@@ -1,18 +1,26 @@
 -- What a run of `load`, and the loading of a text, leave of the world, at every moment and at its end.
-use Rattle.std.specs.Prelude.{◌≡◌, ℕ, List, Option, Some, Err, IsTrue}
+use Rattle.std.specs.Prelude.{◌≡◌, ℕ, List, [], Option, Some, Err, IsTrue}
 use Rattle.pgs_run_lines.specs.Machine.{Told}
+use Rattle.pgs_run_lines.specs.Pieces.{ShowsAll, shown_of}
 use Rattle.pgs_store.specs.Loads.{FindsNone}
 use Rattle.pgs_world.specs.declared.area.Area.TheVariants.{B}
 use Rattle.pgs_world.specs.Moment.{EachSince, IsSettled, Passes}
 use Rattle.pgs_world.specs.World.{View}
 use Rattle.pgs_command.specs.declared.status.Status.{Status}
-use Rattle.pgs_command.specs.declared.status.Status.TheVariants.{DiskFault}
+use Rattle.pgs_command.specs.declared.status.Status.TheVariants.{DiskFault, ReadFault, Memory, InputTooLong}
 use Rattle.pgs_command.specs.Areas.{areas_of}
 use Rattle.pgs_command.specs.Images.{IsUnwritten, KeepsArea, KeepsImages}
 use Rattle.pgs_run_input.specs.Answers.{schema_answer}
 use Rattle.pgs_run_input.specs.Text.{AnswersText}
 use Rattle.pgs_run_load.specs.Loading.{IsLoading, IsLoadingAt, IsMade, IsNewStore, TellsFor}
 use Rattle.pgs_run_load.specs.Told.{told_text}
+
+-- with these statuses nothing was put
+abbrev pub IsUnput : Status → Type 0
+IsUnput ReadFault = Unit {0}
+IsUnput Memory = Unit {0}
+IsUnput InputTooLong = Unit {0}
+IsUnput status = ⊥
 
 -- Where both areas are free, at every moment nothing or the new store is saved; else nothing is written
 pub record LeavesLoaded (left : Option (List ℕ)) (old new : View) (status : Status) : Type 0 where
@@ -28,6 +36,8 @@ pub record LeavesLoaded (left : Option (List ℕ)) (old new : View) (status : St
   pub beside : KeepsArea B old new
   -- at the end the new store is there, where its line was put, or its put failed
   pub made : IsTrue old.tells_bytes → (input : List ℕ) → left ≡ Some input → FindsNone old → IsMade input status → IsNewStore input new.shown
+  -- a fault of a read, want of memory and a cut come before the line is put
+  pub unput : IsUnput status → ShowsAll (shown_of old) [] (shown_of new)
 
 -- What the loading of a text does: what is told of it is put, and what a run leaves whose input it is.
 pub record LoadsText (text : List ℕ) (old new : View) (status : Status) : Type 0 where
