@@ -1,6 +1,12 @@
 -- The feeds of names, one more after another.
-use Rattle.std.proofs.Common.{◌≡◌, ◌∙◌, ◌+◌, ◌<◌, ℕ, false, inr, Result, Ok, Err, IfOk, List, [], ◌∷◌, ◌++◌, length, take, get_or, Option, Some, None, refl, sym, ap, subst, map, append_assoc, append-nil, arith}
+use Rattle.std.proofs.Common.{◌≡◌, ◌∙◌, ◌+◌, ◌<◌, ℕ, Bool, true, false, inr, Result, Ok, Err, IfOk, List, [], ◌∷◌, ◌++◌, length, take, get_or, Option, Some, None, refl, sym, ap, subst, map, append_assoc, append-nil, arith}
 use Rattle.std.proofs.lemmas.List.{take_more}
+use Rattle.std.specs.Option.{option_map}
+use Rattle.pgs_feed.specs.declared.feed_list.FeedList.{FeedList}
+use Rattle.pgs_feed.specs.declared.slot.Slot.{Slot}
+use Rattle.pgs_feed.specs.Places.{FeedState, Place, Fed, Lost, Dropped, fed, place_of}
+use Rattle.pgs_feed.specs.Seen.{place_seen, places}
+use Rattle.pgs_world_files.specs.Counted.{untold_bytes}
 use Rattle.pgs_world_files.specs.declared.file_feed.FileFeed.{FileFeed}
 use Rattle.pgguard.specs.Opened.{IsFeedOf, AreFeedsOf, is_among}
 
@@ -24,6 +30,36 @@ pub unfailed_more : {X Y P : Type 0} (h : X → Y) (p : P) (xs : List X) (i : �
 unfailed_more h p [] i old new lt is are = absurd (omega (arith, lt))
 unfailed_more h p (x ∷ xs) i old new lt is are =
     is ∙ ap (λ ps. ps ++ p ∷ []) are ∙ sym (map_push (λ y. p) (map h (take i (x ∷ xs))) (h (get_or (x ∷ xs) i x))) ∙ ap (map (λ y. p)) (sym (next h (x ∷ xs) i x lt))
+
+-- the same place, without what its feed tells
+untold : Place → Place
+untold (Fed feed) = fed untold_bytes feed.faults
+untold (Lost feed) = Lost (record { taken = untold_bytes; faults = feed.faults })
+untold (Dropped failed) = Dropped failed
+
+module _ {F : Type 0} (taken : F → Option (List ℕ)) (faults : F → ℕ) where
+  place_untold : (feed : Option F) (lost : Bool) → untold (place_of (option_map (λ feed. record { taken = taken feed; faults = faults feed }) feed) lost)
+      ≡ place_of (option_map (λ feed. record { taken = untold_bytes; faults = faults feed }) feed) lost
+  place_untold None lost = refl
+  place_untold (Some feed) true = refl
+  place_untold (Some feed) false = refl
+
+  all_untold : (slots : List (Slot F)) → map untold (map (place_seen taken faults) slots) ≡ map (place_seen (λ feed. untold_bytes) faults) slots
+  all_untold [] = refl
+  all_untold (slot ∷ slots) =
+      ap (λ place. place ∷ map untold (map (place_seen taken faults) slots)) (place_untold slot.feed slot.is_lost)
+      ∙ ap (λ rest. place_seen (λ feed. untold_bytes) faults slot ∷ rest) (all_untold slots)
+
+  pub untold_none : (list : FeedList F) → places taken faults list ≡ [] → places (λ feed. untold_bytes) faults list ≡ []
+  untold_none list none = sym (all_untold list.slots.items) ∙ ap (map untold) none
+
+  -- one more feed that hasn't failed
+  pub untold_more : (old new : FeedList F) (feed : F) → faults feed ≡ 0 → places taken faults new ≡ places taken faults old ++ fed (taken feed) (faults feed) ∷ []
+      → places (λ feed. untold_bytes) faults new ≡ places (λ feed. untold_bytes) faults old ++ fed untold_bytes 0 ∷ []
+  untold_more old new feed unfailed added =
+      sym (all_untold new.slots.items) ∙ ap (map untold) added ∙ map_push untold (places taken faults old) (fed (taken feed) (faults feed))
+      ∙ ap (λ ps. ps ++ fed untold_bytes (faults feed) ∷ []) (all_untold old.slots.items)
+      ∙ ap (λ n. places (λ other. untold_bytes) faults old ++ fed untold_bytes n ∷ []) unfailed
 
 module _ {L : Type 0} (gives : List ℕ → FileFeed L → Type 0) where
   pub one_more : (earlier names : List (List ℕ)) (feeds : List (Option (FileFeed L))) (name : List ℕ) (feed : FileFeed L) → AreFeedsOf gives earlier names feeds

@@ -46,7 +46,7 @@ AreFeedsOf gives earlier names feeds = ⊥
 abbrev pub files_of : (store : Option (List ℕ)) → List (List ℕ)
 files_of store = (unwrap_or store [] ++ codes ".a") ∷ (unwrap_or store [] ++ codes ".b") ∷ []
 
--- a feed that took nothing that is told, and hasn't failed
+-- a feed that hasn't failed, without what it tells
 abbrev pub fed_none : Place
 fed_none = fed untold_bytes 0
 

@@ -43,7 +43,8 @@ impl Program<HostRuntime> for Guard {
           read_made = ⟦<StdinSource<Stdin> as Source>⟧.read_made;
           failed = ⟦<FileWorld<Stdout, StoreFile<SystemFile<'static, HostRuntime>>> as World>⟧.failed;
         })
-        ⟦<FileFeed<File> as Feed>⟧.put_made words status };
+        (record { taken = ⟦<FileFeed<File> as Feed>⟧.taken; put_made = ⟦<FileFeed<File> as Feed>⟧.put_made })
+        words status };
 
     const NAME: &'static str = "pgguard";
 

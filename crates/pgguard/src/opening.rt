@@ -76,7 +76,7 @@ fn add_feed<O: Opening>(
     name: &str,
 ) -> Result<(), Memory>
     ensures feed { OnOk result ((feed : _) × (feeds_in feeds.new ≡ feeds_in feeds.old ++ Some feed ∷ []) × IsFeedOf O.feed_gives (map (λ other. other.now) earlier.now) name.now feed) }
-    ensures places { let feed = ⟦<FileFeed<O::Line> as Feed>⟧ in OnOk result (places feed.taken feed.faults feeds.new ≡ places feed.taken feed.faults feeds.old ++ fed untold_bytes 0 ∷ []) }
+    ensures places { let feed = ⟦<FileFeed<O::Line> as Feed>⟧ in OnOk result (places (λ feed. untold_bytes) feed.faults feeds.new ≡ places (λ feed. untold_bytes) feed.faults feeds.old ++ fed untold_bytes 0 ∷ []) }
 {
     let feed = feed_of(system, earlier, name)?;
     match feeds.subscribe(feed) {
@@ -87,6 +87,7 @@ fn add_feed<O: Opening>(
 }
 
 // The feeds of these names behind others, in order.
+#[tactic(auto, using(crate::proofs::Feeds::untold_none))]
 fn open_feeds<O: Opening>(
     system: &mut O,
     alloc: Global,
@@ -94,7 +95,7 @@ fn open_feeds<O: Opening>(
     names: &[&str],
 ) -> Result<FeedList<FileFeed<O::Line>>, Memory>
     ensures feeds { IfOk result (λ feeds. AreFeedsOf O.feed_gives (map (λ other. other.now) files.now) (map (λ other. other.now) names.now) (feeds_in feeds)) }
-    ensures places { let feed = ⟦<FileFeed<O::Line> as Feed>⟧ in IfOk result (λ feeds. places feed.taken feed.faults feeds ≡ map (λ name. fed untold_bytes 0) (map (λ other. other.now) names.now)) }
+    ensures places { let feed = ⟦<FileFeed<O::Line> as Feed>⟧ in IfOk result (λ feeds. places (λ feed. untold_bytes) feed.faults feeds ≡ map (λ name. fed untold_bytes 0) (map (λ other. other.now) names.now)) }
 {
     let mut earlier = Vec::with_capacity(alloc, files.len())?;
     earlier.extend_from_slice(files)?;
@@ -114,7 +115,7 @@ pub fn feeds_of<O: Opening>(
     line: &CommandLine<'_>,
 ) -> Result<FeedList<FileFeed<O::Line>>, Memory>
     ensures feeds { IfOk result (λ feeds. AreFeedsOf O.feed_gives (files_of (option_map (λ name. name.now) line.now.store)) (map (λ name. name.now) line.now.feeds) (feeds_in feeds)) }
-    ensures places { let feed = ⟦<FileFeed<O::Line> as Feed>⟧ in IfOk result (λ feeds. places feed.taken feed.faults feeds ≡ map (λ name. fed untold_bytes 0) (map (λ name. name.now) line.now.feeds)) }
+    ensures places { let feed = ⟦<FileFeed<O::Line> as Feed>⟧ in IfOk result (λ feeds. places (λ feed. untold_bytes) feed.faults feeds ≡ map (λ name. fed untold_bytes 0) (map (λ name. name.now) line.now.feeds)) }
 {
     let store = line.store.unwrap_or("");
     let a = file_name(alloc, store, ".a")?;

@@ -54,7 +54,8 @@ pub fn run_program<O: Opening, R: SteadyRead + Drop, W: SteadyWrite + Drop>(
           read_made = ⟦<StdinSource<R> as Source>⟧.read_made;
           failed = ⟦<FileWorld<W, O::Area> as World>⟧.failed;
         })
-        ⟦<FileFeed<O::Line> as Feed>⟧.put_made words.now reader writer (seed_of drawn)) }
+        (record { taken = ⟦<FileFeed<O::Line> as Feed>⟧.taken; put_made = ⟦<FileFeed<O::Line> as Feed>⟧.put_made })
+        words.now reader writer (seed_of drawn)) }
 {
     let mut opened = open(system, alloc, words, reader, writer, drawn)?;
     let status = run(

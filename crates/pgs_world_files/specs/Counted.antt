@@ -78,6 +78,6 @@ timed_view tells_bytes bytes tells_output contents tells_stops pasts counts are 
       output = λ honest tells c left. (are honest).all c.output left.1.output;
     }
 
--- the bytes of a feed into a file aren't told
+-- no bytes are told
 abbrev pub untold_bytes : Option (List ℕ)
 untold_bytes = None

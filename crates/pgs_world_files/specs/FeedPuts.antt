@@ -8,6 +8,11 @@ use Rattle.pgs_world_files.specs.declared.file_feed.FileFeed.{FileFeed}
 use Rattle.pgs_world_files.specs.FeedLines.{commit_of}
 use Rattle.pgs_world_files.specs.Handles.{IfOpen}
 
+-- the bytes that a feed tells: those that its writer holds and tells; without a file none
+abbrev pub told_in : {W : Type 0} → (W → Option (List ℕ)) → Option W → Option (List ℕ)
+told_in contents None = None
+told_in contents (Some writer) = contents writer
+
 -- a piece begins as the line of a commit above this one
 abbrev pub is_above : ℕ → Option ℕ → Bool
 is_above last None = false

@@ -1,8 +1,7 @@
 ghost use Rattle.std.specs.Prelude.{◌≡◌, ◌≤◌, None, Some, OnOk, OnErr, IfErr, is_err};
 ghost use Rattle.pgs_world.specs.Count.{RoseByOne, raised};
 ghost use Rattle.pgs_world.specs.World.{Adds, AddsFront};
-ghost use Rattle.pgs_world_files.specs.Counted.{untold_bytes};
-ghost use Rattle.pgs_world_files.specs.FeedPuts.{FeedPutIs, IsPutCause, is_behind};
+ghost use Rattle.pgs_world_files.specs.FeedPuts.{FeedPutIs, IsPutCause, is_behind, told_in};
 ghost use Rattle.pgs_world_files.specs.Handles.{IfOpen};
 ghost use Rattle.pgs_world_streams.specs.Pieces.{HoldsPiece};
 
@@ -14,7 +13,8 @@ use pgs_world_streams::{SteadyWrite, write_whole};
 /// A feed into a file: an open file, behind whose bytes each piece is written, or none, and then every put is a fault. It keeps the number
 /// of the file's last line, where that is known, and the cause of its last fault, or why there is no file.
 ///
-/// It tells nothing of its bytes, since no clause says what a file holds, nor what a stop leaves of them: so all its calls begin at the moment 0.
+/// It tells its bytes where its writer does: all that the writer holds, and so what stood in it before too. A file of the system doesn't tell.
+/// What a stop leaves of them it never tells: so all its calls begin at the moment 0.
 #[derive(Drop)]
 pub struct FileFeed<W: SteadyWrite + Drop> {
     writer: Option<W>,
@@ -95,10 +95,9 @@ impl<W: SteadyWrite + Drop> FileFeed<W> {
 }
 
 impl<W: SteadyWrite + Drop> Feed for FileFeed<W> {
-    ghost use Rattle.pgs_world_files.specs.Counted.{untold_bytes};
-    ghost use Rattle.pgs_world_files.specs.FeedPuts.{IsPutInto};
+    ghost use Rattle.pgs_world_files.specs.FeedPuts.{IsPutInto, told_in};
 
-    ghost taken = { λ _. untold_bytes };
+    ghost taken = { λ feed. told_in W.contents feed.writer };
 
     ghost faults = { λ feed. feed.faults };
 
@@ -106,7 +105,7 @@ impl<W: SteadyWrite + Drop> Feed for FileFeed<W> {
 
     /// Writes the whole piece behind the end of the file and flushes it, or counts a fault and keeps its cause; a front of the piece may be
     /// written then, but nothing of one that isn't above the file's last line.
-    #[tactic(auto, using(crate::proofs::FeedPuts::put_into))]
+    #[tactic(auto, using(crate::proofs::FeedPuts::put_into, crate::proofs::FeedPuts::feed_adds, crate::proofs::FeedPuts::feed_adds_front))]
     fn put(&mut self, piece: &[u8]) -> Result<(), FeedFault>
         ensures holds { IfOpen (λ old answer new. HoldsPiece W.contents old piece.now answer new) self.old.writer result self.new.writer }
         ensures given { IfOpen (λ old answer new. FeedPutIs (W.write_gives 0) (W.flush_gives 0) (is_behind self.old.last piece.now) old piece.now answer new) self.old.writer result self.new.writer }
@@ -115,8 +114,8 @@ impl<W: SteadyWrite + Drop> Feed for FileFeed<W> {
         ensures raised { OnErr result (self.new.faults ≡ raised self.old.faults) }
 
         // What every feed says.
-        ensures whole { OnOk result (Adds untold_bytes untold_bytes piece.now) }
-        ensures front { OnErr result (AddsFront untold_bytes untold_bytes piece.now) }
+        ensures whole { OnOk result (Adds (told_in W.contents self.old.writer) (told_in W.contents self.new.writer) piece.now) }
+        ensures front { OnErr result (AddsFront (told_in W.contents self.old.writer) (told_in W.contents self.new.writer) piece.now) }
         ensures cause { OnErr result (RoseByOne self.old.faults self.new.faults) }
         ensures no_cause { OnOk result (self.new.faults ≡ self.old.faults) }
         ensures faults_stay { self.old.faults ≤ self.new.faults }
@@ -133,6 +132,9 @@ impl<W: SteadyWrite + Drop> Feed for FileFeed<W> {
     }
 
     fn shown(&self) -> Option<&[u8]> {
-        None
+        match &self.writer {
+            Some(writer) => writer.shown(),
+            None => None,
+        }
     }
 }

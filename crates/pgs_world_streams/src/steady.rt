@@ -1,7 +1,7 @@
 ghost use Rattle.std.specs.Prelude.{◌≡◌, ℕ, List, Bool, Result, IsTrue, true, false, ⊤, is_ok, refl};
 ghost use Rattle.std.specs.Io.{ReadsAtMost, WritesAtMost};
 ghost use Rattle.std.specs.Io.KnownBytes.{Keeps, ReadConsumes, WriteAppends};
-ghost use Rattle.std.specs.Option.{is_some};
+ghost use Rattle.std.specs.Option.{is_some, option_map};
 ghost use Rattle.std.specs.declared.io.Error.{Error};
 ghost use Rattle.pgs_world_streams.specs.Past.{Past, no_past};
 ghost use Rattle.pgs_world_streams.specs.Written.{HasWriterStops};
@@ -53,6 +53,10 @@ pub trait SteadyWrite: Write {
     fn until(&self) -> u64
         ensures { result ≡ (past self.now).until };
 
+    /// The bytes that it holds, where it tells them, else `None`.
+    fn shown(&self) -> Option<&[u8]>
+        ensures { option_map (λ bytes. bytes.now) result ≡ Self.contents self.now };
+
     /// One write.
     fn write_once(&mut self, moment: u64, bytes: &[u8]) -> io::Result<usize>
         ensures bound { WritesAtMost result bytes.now }
@@ -100,6 +104,10 @@ impl SteadyWrite for Stdout {
         0
     }
 
+    fn shown(&self) -> Option<&[u8]> {
+        None
+    }
+
     fn write_once(&mut self, _moment: u64, bytes: &[u8]) -> io::Result<usize> {
         self.write(bytes)
     }
@@ -118,6 +126,10 @@ impl SteadyWrite for File {
 
     fn until(&self) -> u64 {
         0
+    }
+
+    fn shown(&self) -> Option<&[u8]> {
+        None
     }
 
     fn write_once(&mut self, _moment: u64, bytes: &[u8]) -> io::Result<usize> {
@@ -140,6 +152,10 @@ impl SteadyWrite for Vec<u8> {
 
     fn until(&self) -> u64 {
         0
+    }
+
+    fn shown(&self) -> Option<&[u8]> {
+        Some(self.as_slice())
     }
 
     fn write_once(&mut self, _moment: u64, bytes: &[u8]) -> io::Result<usize> {

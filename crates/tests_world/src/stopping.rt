@@ -303,6 +303,10 @@ impl SteadyWrite for Kept {
         self.until
     }
 
+    fn shown(&self) -> Option<&[u8]> {
+        Some(self.bytes.as_slice())
+    }
+
     fn write_once(&mut self, moment: u64, bytes: &[u8]) -> io::Result<usize> {
         match self.add(moment, bytes) {
             Ok(()) => Ok(bytes.len()),

@@ -62,6 +62,10 @@ impl SteadyWrite for Slow {
         0
     }
 
+    fn shown(&self) -> Option<&[u8]> {
+        None
+    }
+
     fn write_once(&mut self, _moment: u64, bytes: &[u8]) -> io::Result<usize> {
         self.write(bytes)
     }
