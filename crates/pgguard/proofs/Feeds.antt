@@ -32,7 +32,7 @@ unfailed_more h p (x ∷ xs) i old new lt is are =
     is ∙ ap (λ ps. ps ++ p ∷ []) are ∙ sym (map_push (λ y. p) (map h (take i (x ∷ xs))) (h (get_or (x ∷ xs) i x))) ∙ ap (map (λ y. p)) (sym (next h (x ∷ xs) i x lt))
 
 -- the same place, without what its feed tells
-untold : Place → Place
+abbrev untold : Place → Place
 untold (Fed feed) = fed untold_bytes feed.faults
 untold (Lost feed) = Lost (record { taken = untold_bytes; faults = feed.faults })
 untold (Dropped failed) = Dropped failed
