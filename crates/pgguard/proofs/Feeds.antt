@@ -5,7 +5,7 @@ use Rattle.std.specs.Option.{option_map}
 use Rattle.pgs_feed.specs.declared.feed_list.FeedList.{FeedList}
 use Rattle.pgs_feed.specs.declared.slot.Slot.{Slot}
 use Rattle.pgs_feed.specs.Places.{FeedState, Place, Fed, Lost, Dropped, fed, place_of}
-use Rattle.pgs_feed.specs.Seen.{place_seen, places}
+use Rattle.pgs_feed.specs.Seen.{feeds_in, place_seen, places}
 use Rattle.pgs_world_files.specs.Counted.{untold_bytes}
 use Rattle.pgs_world_files.specs.declared.file_feed.FileFeed.{FileFeed}
 use Rattle.pgguard.specs.Opened.{IsFeedOf, AreFeedsOf, is_among}
@@ -31,8 +31,12 @@ unfailed_more h p [] i old new lt is are = absurd (omega (arith, lt))
 unfailed_more h p (x ∷ xs) i old new lt is are =
     is ∙ ap (λ ps. ps ++ p ∷ []) are ∙ sym (map_push (λ y. p) (map h (take i (x ∷ xs))) (h (get_or (x ∷ xs) i x))) ∙ ap (map (λ y. p)) (sym (next h (x ∷ xs) i x lt))
 
+map_none : {A B : Type 0} (f : A → B) (xs : List A) → map f xs ≡ [] → xs ≡ []
+map_none f [] none = refl
+map_none f (x ∷ xs) none = let e : length (f x ∷ map f xs) ≡ 0 = ap length none in absurd (omega (arith, e))
+
 -- the same place, without what its feed tells
-untold : Place → Place
+abbrev untold : Place → Place
 untold (Fed feed) = fed untold_bytes feed.faults
 untold (Lost feed) = Lost (record { taken = untold_bytes; faults = feed.faults })
 untold (Dropped failed) = Dropped failed
@@ -52,6 +56,9 @@ module _ {F : Type 0} (taken : F → Option (List ℕ)) (faults : F → ℕ) whe
 
   pub untold_none : (list : FeedList F) → places taken faults list ≡ [] → places (λ feed. untold_bytes) faults list ≡ []
   untold_none list none = sym (all_untold list.slots.items) ∙ ap (map untold) none
+
+  pub no_feeds : (list : FeedList F) → places taken faults list ≡ [] → feeds_in list ≡ []
+  no_feeds list none = ap (map (λ slot. slot.feed)) (map_none (place_seen taken faults) list.slots.items none)
 
   -- one more feed that hasn't failed
   pub untold_more : (old new : FeedList F) (feed : F) → faults feed ≡ 0 → places taken faults new ≡ places taken faults old ++ fed (taken feed) (faults feed) ∷ []

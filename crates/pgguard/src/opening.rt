@@ -87,7 +87,6 @@ fn add_feed<O: Opening>(
 }
 
 // The feeds of these names behind others, in order.
-#[tactic(auto, using(crate::proofs::Feeds::untold_none))]
 fn open_feeds<O: Opening>(
     system: &mut O,
     alloc: Global,

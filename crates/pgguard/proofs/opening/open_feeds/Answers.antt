@@ -1,9 +1,20 @@
-use Rattle.std.proofs.Common.{◌<◌, length, map, arith}
+use Rattle.std.proofs.Common.{◌<◌, List, [], Option, length, map, arith, rules, subst, sym}
 use Rattle.pgs_feed.specs.Places.{fed}
 use Rattle.pgs_feed.specs.Seen.{feeds_in}
 use Rattle.pgs_world_files.specs.Counted.{untold_bytes}
-use Rattle.pgguard.proofs.Feeds.{earlier_more, opened_more, unfailed_more}
+use Rattle.pgguard.proofs.Feeds.{earlier_more, no_feeds, opened_more, unfailed_more, untold_none}
+use Rattle.pgguard.specs.Opened.{AreFeedsOf}
 use Rattle.pgguard.proofs.opening.open_feeds.Goals as goal
+
+pub loop-name-init : goal.loop-name-init
+loop-name-init g c =
+    let files = map (λ other. other.now) c.args.files.now in
+    let none = c.new-feeds.ensures in
+    record {
+      earlier = search rules;
+      opened = subst (λ (feeds : List (Option _)). AreFeedsOf g.O.Opening.feed_gives files [] feeds) (sym (no_feeds _ _ c.new-feeds.result none)) tt;
+      unfailed = untold_none _ _ c.new-feeds.result none;
+    }
 
 pub loop-name-preserved : goal.loop-name-preserved
 loop-name-preserved g c =
