@@ -1,3 +1,4 @@
+pub mod Above
 pub mod Committed
 pub mod Ends
 pub mod Folded

@@ -1,7 +1,8 @@
 -- What a table of numbered rows is seen as: the rows that are there by ascending number, the numbers that have a slot, and how it hashes.
-use Rattle.std.specs.Prelude.{◌≡◌, ℕ, Bool, true, cond, List, length, [], ◌∷◌, ◌++◌, Option, Some, None, ◌<◌, get_or, refl}
+use Rattle.std.specs.Prelude.{◌≡◌, ℕ, Bool, true, false, cond, List, length, [], ◌∷◌, ◌++◌, Option, Some, None, ◌<◌, get_or, refl}
 use Rattle.std.specs.Coded.{Coded, code_by, coded_list, coded×}
 use Rattle.std.specs.declared.cmp.Ordering.{Ordering}
+use Rattle.std.specs.Ordering.{is_lt}
 use Rattle.std.specs.List.{list_any, IsDistinct}
 use Rattle.std.specs.Map.{keys_of, lookup, set_value}
 use Rattle.indexmap.specs.Layout.{set_value_at}
@@ -48,10 +49,24 @@ abbrev pub row_count : {V : Type 0} → Option V → ℕ
 row_count None = 0
 row_count (Some row) = 1
 
--- no number has two slots, and so many rows are in them
-pub record AreSlots {K V : Type 0} (eq : K → K → Bool) (count : ℕ) (slots : List (K × Option V)) : Type 0 where
+-- whether a number is above the greatest, or there is none
+abbrev pub is_above : {K : Type 0} → (K → K → Ordering) → Option K → K → Bool
+is_above cmp None id = true
+is_above cmp (Some greatest) id = is_lt (cmp greatest id)
+
+-- the greatest of numbers and one more
+abbrev pub raised : {K : Type 0} → (K → K → Ordering) → Option K → K → Option K
+raised cmp greatest id = cond (is_above cmp greatest id) (Some id) greatest
+
+-- what is above the greatest is none of these numbers
+abbrev pub AreBelow : {K : Type 0} → (K → K → Ordering) → Option K → List K → Type 0
+AreBelow {K} cmp greatest numbers = (id : K) → is_above cmp greatest id ≡ true → list_any (is_at (cmp id)) numbers ≡ false
+
+-- no number has two slots, so many rows are in them, and none is above the greatest
+pub record AreSlots {K V : Type 0} (eq : K → K → Bool) (cmp : K → K → Ordering) (count : ℕ) (greatest : Option K) (slots : List (K × Option V)) : Type 0 where
   pub distinct : IsDistinct eq (keys_of slots)
   pub counted : count ≡ length (present slots)
+  pub below : AreBelow cmp greatest (keys_of slots)
 
 -- slots with the rows of others, and where each number that has a slot there has one
 pub record AreKept {K V : Type 0} (old new : List (K × Option V)) : Type 0 where

@@ -5,7 +5,7 @@ ghost use Rattle.std.specs.List.Sorted.{IsStrictlySortedBy};
 ghost use Rattle.std.specs.BTreeMap.{is_at, insert_entry};
 ghost use Rattle.std.specs.Map.{keys_of, lookup, remove_entry, set_value};
 ghost use Rattle.indexmap.specs.IndexMap.{hasher_of};
-ghost use Rattle.pgs_tables.specs.Slots.{has_row, has_slot, present, row_count, with_number, AreKept, IsFoundAt};
+ghost use Rattle.pgs_tables.specs.Slots.{has_row, has_slot, is_above, present, raised, row_count, with_number, AreKept, IsFoundAt};
 
 use crate::Number;
 use crate::places::Places;
@@ -21,6 +21,8 @@ use std::mem;
 pub struct Numbered<K: Number, V> {
     slots: IndexMap<K, Option<V>, Seed>,
     live: usize,
+    // The greatest number that had a slot: those above it have none, and aren't looked up.
+    greatest: Option<K>,
     last: Places,
 }
 
@@ -35,7 +37,7 @@ impl<K: Number, V> Model for Numbered<K, V> {
 
     ghost view = { λ table. record { rows = by_key K.cmp (present table.slots.entries); numbers = keys_of table.slots.entries; seed = hasher_of table.slots } };
 
-    ghost invariant = { λ table. AreSlots K.eq table.live table.slots.entries };
+    ghost invariant = { λ table. AreSlots K.eq K.cmp table.live table.greatest table.slots.entries };
 }
 
 impl<K: Number, V: Drop> Numbered<K, V> {
@@ -48,6 +50,7 @@ impl<K: Number, V: Drop> Numbered<K, V> {
         Numbered {
             slots: IndexMap::with_hasher(alloc, seed),
             live: 0,
+            greatest: None,
             last: Places::new(),
         }
     }
@@ -56,6 +59,9 @@ impl<K: Number, V: Drop> Numbered<K, V> {
     pub fn get(&self, id: K) -> Option<&V>
         ensures { option_copied result ≡ lookup (is_at (K.cmp id)) self.now.rows }
     {
+        if is_above(self.greatest, id) {
+            return None;
+        }
         match read(&self.slots, &self.last, id) {
             Some(slot) => slot.as_ref(),
             None => None,
@@ -76,6 +82,7 @@ impl<K: Number, V: Drop> Numbered<K, V> {
         }
         let place = slot_of(&mut self.slots, id)?;
         self.last.note(id.number(), place);
+        self.greatest = raise(self.greatest, id);
         Ok(())
     }
 
@@ -161,6 +168,27 @@ fn present_ids<K: Number, V: Drop>(
         }
     }
     Ok(ids)
+}
+
+// Whether a number is above the greatest, or there is none.
+fn is_above<K: Number>(greatest: Option<K>, id: K) -> bool
+    ensures { result ≡ is_above K.cmp greatest id }
+{
+    match greatest {
+        Some(greatest) => greatest.cmp(&id).is_lt(),
+        None => true,
+    }
+}
+
+// The greatest of numbers and one more.
+fn raise<K: Number>(greatest: Option<K>, id: K) -> Option<K>
+    ensures { result ≡ raised K.cmp greatest id }
+{
+    if is_above(greatest, id) {
+        Some(id)
+    } else {
+        greatest
+    }
 }
 
 // Whether the slot of a number stands at a place.

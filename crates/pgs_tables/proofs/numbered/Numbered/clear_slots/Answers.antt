@@ -1,9 +1,11 @@
 use Rattle.std.proofs.Common.{◌∙◌, Option, is_some, length, sym, ap, arith, rules}
-use Rattle.std.specs.List.{filter}
+use Rattle.std.specs.List.{filter, list_any}
+use Rattle.std.specs.BTreeMap.{is_at}
 use Rattle.std.specs.Map.{keys_of}
 use Rattle.std.proofs.lemmas.Map.Made.{filter_same_pairs}
 use Rattle.pgs_tables.specs.Slots.{by_key, has_row, present}
 use Rattle.pgs_tables.proofs.Rows.{count-filter, length-keys, numbers-filter, present-filter, rows-counted}
+use Rattle.pgs_tables.proofs.Above.{none_kept}
 use Rattle.pgs_tables.proofs.numbered.Numbered.clear_slots.Goals as goal
 
 pub invariant_of-self : goal.invariant_of-self
@@ -13,6 +15,7 @@ invariant_of-self g c =
     record {
       distinct = c.retain.ensures.unique;
       counted = c.self.invariant.counted ∙ sym (ap (λ l. length (present l)) kept ∙ ap length (present-filter slots));
+      below = λ id above. ap (λ l. list_any (is_at (g.K.Ord.cmp id)) (keys_of l)) kept ∙ none_kept (is_at (g.K.Ord.cmp id)) (λ (e : g.row.K.Denot × Option g.row.V.Denot). is_some e.1) slots (c.self.invariant.below id above);
     }
 
 pub returns-then-is_sparse-clause-rows : goal.returns-then-is_sparse-clause-rows

@@ -33,6 +33,8 @@ invariant_of-self g c =
     record {
       distinct = subst (IsDistinct g.K.PartialEq.eq) (sym (keys-set_value test slots (Some c.args.row)) ∙ ap keys_of (sym c.replace-old.ensures.entries)) c.self.invariant.distinct;
       counted = omega (arith, c.self.invariant.counted);
+      below = λ id above. ap (λ l. list_any (is_at (g.K.Ord.cmp id)) (keys_of l)) c.replace-old.ensures.entries
+          ∙ ap (list_any (is_at (g.K.Ord.cmp id))) (keys-set_value test slots (Some c.args.row)) ∙ c.self.invariant.below id above;
     }
 
 pub returns-clause-rows : goal.returns-clause-rows
