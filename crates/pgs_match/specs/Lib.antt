@@ -9,3 +9,4 @@ pub mod Tests
 pub mod Asks
 pub mod Routes
 pub mod Spread
+pub mod Learned
