@@ -1,6 +1,6 @@
 //! What the searches of one key in one graph have learned, and the calls that use it.
 
-ghost use Rattle.std.specs.Prelude.{◌≡◌, ◌+◌, ◌*◌, ◌^◌, ◌≤◌, ℕ, [], length, IfOk};
+ghost use Rattle.std.specs.Prelude.{◌≡◌, ◌+◌, ◌*◌, ◌^◌, ◌≤◌, ℕ, true, [], length, IfOk};
 ghost use Rattle.pgs_syntax.specs.KeyValues.{is_in_scope, key_values};
 ghost use Rattle.pgs_syntax.specs.Valid.{is_valid_key_of};
 ghost use Rattle.pgs_match.specs.Near.{IsSparse};
