@@ -1,5 +1,6 @@
 ghost use Rattle.std.specs.Prelude.{◌≡◌, ◌++◌, ◌<◌, ◌^◌, ◌&&◌, Some, length, min, nat_lt, IfOk, OnOk, IsTrue};
 ghost use Rattle.std.specs.List.{list_all};
+ghost use Rattle.pgs_codec.specs.declared.command.Command.TheVariants.{Txn as Transaction};
 ghost use Rattle.pgs_codec.specs.Encodable.{adds_small, are_parts, is_encodable, is_op, is_sized, is_small_edge, is_small_node, IsPayload};
 ghost use Rattle.pgs_codec.specs.Payload.{ops_field, rows_field, snapshot_field, payload_of};
 ghost use Rattle.pgs_codec.specs.Reading.{decoded};
@@ -7,7 +8,7 @@ ghost use Rattle.pgs_codec.specs.Reading.{decoded};
 use crate::Command;
 use crate::field::{Field, size_of_all, write_all};
 use pgs_base::{Bytes, EdgeId, EdgeRow, List, Memory, NodeId, NodeRow};
-use pgs_graph::Op;
+use pgs_graph::{Op, Txn};
 use std::alloc::Global;
 
 fn write_ops(ops: &[Op], out: &mut Vec<u8>) -> Result<(), Memory>
@@ -47,7 +48,26 @@ fn write_snapshot(
     Ok(())
 }
 
-// How many bytes the payload has, as far as a `usize` counts.
+// The byte of a transaction, and its operations.
+fn write_txn(txn: &Txn, out: &mut Vec<u8>) -> Result<(), Memory>
+    requires { IsTrue (is_sized (Transaction txn.now)) }
+    ensures bytes { OnOk result (out.new.items ≡ out.old.items ++ payload_of (Transaction txn.now)) }
+    ensures fit { OnOk result (IsTrue (is_encodable (Transaction txn.now))) }
+{
+    out.push(3)?;
+    write_ops(txn.ops.as_slice(), out)?;
+    Ok(())
+}
+
+// How many bytes the payload of a transaction has, as far as a `usize` counts.
+#[tactic(auto, unfolding(crate::specs::Payload::payload_of))]
+fn size_of_txn(txn: &Txn) -> usize
+    ensures { result ≡ min (length (payload_of (Transaction txn.now))) usize.MAX }
+{
+    size_of_all(txn.ops.as_slice()).saturating_add(5)
+}
+
+// The same of a command.
 #[tactic(auto, unfolding(crate::specs::Payload::payload_of))]
 fn size_of_payload(command: &Command) -> usize
     ensures { result ≡ min (length (payload_of command.now)) usize.MAX }
@@ -57,7 +77,7 @@ fn size_of_payload(command: &Command) -> usize
         Command::Snapshot { nodes, edges, .. } => size_of_all(nodes.as_slice())
             .saturating_add(size_of_all(edges.as_slice()))
             .saturating_add(25),
-        Command::Txn(txn) => size_of_all(txn.ops.as_slice()).saturating_add(5),
+        Command::Txn(txn) => size_of_txn(txn),
     }
 }
 
@@ -80,10 +100,7 @@ fn write_command(command: &Command, out: &mut Vec<u8>) -> Result<(), Memory>
             out.push(2)?;
             write_snapshot(*commits, nodes.as_slice(), edges.as_slice(), out)?;
         }
-        Command::Txn(txn) => {
-            out.push(3)?;
-            write_ops(txn.ops.as_slice(), out)?;
-        }
+        Command::Txn(txn) => write_txn(txn, out)?,
     }
     Ok(())
 }
@@ -98,5 +115,16 @@ pub fn encode(alloc: Global, command: &Command) -> Result<Bytes, Memory>
 {
     let mut out = Vec::with_capacity(alloc, size_of_payload(command))?;
     write_command(command, &mut out)?;
+    Ok(List::from_vec(out))
+}
+
+/// The payload of a transaction, as [`encode`] gives it for the transaction as a command.
+pub(crate) fn encode_txn(alloc: Global, txn: &Txn) -> Result<Bytes, Memory>
+    requires { IsTrue (is_sized (Transaction txn.now)) }
+    ensures payload { IfOk result (λ bytes. IsPayload (Transaction txn.now) bytes) }
+    ensures decoded { IfOk result (λ bytes. decoded bytes ≡ Some (Transaction txn.now)) }
+{
+    let mut out = Vec::with_capacity(alloc, size_of_txn(txn))?;
+    write_txn(txn, &mut out)?;
     Ok(List::from_vec(out))
 }

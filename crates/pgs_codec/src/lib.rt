@@ -23,5 +23,5 @@ mod walking;
 pub use command::Command;
 pub use decoding::decode;
 pub use encoding::encode;
-pub use framing::frame;
+pub use framing::{frame, frame_txn};
 pub use walking::{PayloadKind, payload_kind};

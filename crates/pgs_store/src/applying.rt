@@ -21,13 +21,12 @@ ghost use Rattle.pgs_world.specs.Moment.{EachSince};
 use crate::changing::{commit, prepare};
 use crate::judging::decision_of;
 use crate::{ApplyFault, Guard, GuardRefusal, Store};
-use pgs_base::{Copyable, Limits, Memory, Steps};
-use pgs_codec::Command;
+use pgs_base::{Limits, Memory, Steps};
+use pgs_codec::frame_txn;
 use pgs_decide::Decided;
 use pgs_graph::Txn;
 use pgs_journal::Journal;
 use pgs_keyindex::KeyIndex;
-use pgs_saved_graph::record_frame;
 use pgs_schema::Schema;
 use pgs_tables::Tables;
 use pgs_world::World;
@@ -46,8 +45,7 @@ fn txn_frame(alloc: Global, txn: &Txn, number: Option<u64>) -> Result<Vec<u8>, M
     ensures frame { IfOk result (λ frame. frame.items ≡ framed number (payload_of (Transaction txn.now))) }
     ensures decoded { OnOk result (decoded_by (payload_of (Transaction txn.now)) ≡ Some (Transaction txn.now)) }
 {
-    let copy = txn.copy(alloc)?;
-    let frame = record_frame(alloc, &Command::Txn(copy), number)?;
+    let frame = frame_txn(alloc, txn, number)?;
     Ok(frame.into_vec())
 }
 

@@ -1,4 +1,4 @@
-use Rattle.std.proofs.Common.{◌≡◌, ℕ, ◌^◌, true, ◌&&◌, nat_lt, List, [], ◌∷◌, ◌++◌, length, sym, ap, subst, ◌∙◌, append_assoc}
+use Rattle.std.proofs.Common.{◌≡◌, ℕ, true, ◌&&◌, List, [], ◌∷◌, ◌++◌, sym, ap, subst, ◌∙◌, append_assoc}
 use Rattle.std.specs.List.{list_all}
 use Rattle.std.proofs.lemmas.Bool.{and_parts, and_from}
 use Rattle.pgs_base.specs.declared.element.NodeId.{NodeId}
@@ -6,12 +6,10 @@ use Rattle.pgs_base.specs.declared.element.EdgeId.{EdgeId}
 use Rattle.pgs_base.specs.declared.row.NodeRow.{NodeRow}
 use Rattle.pgs_base.specs.declared.row.EdgeRow.{EdgeRow}
 use Rattle.pgs_base.specs.Graph.{is_graph}
-use Rattle.pgs_graph.specs.declared.operation.Op.{Op}
-use Rattle.pgs_graph.specs.declared.operation.Txn.{Txn}
 use Rattle.pgs_codec.specs.declared.command.Command.{Command}
 use Rattle.pgs_codec.specs.declared.command.Command.TheVariants as commands
-use Rattle.pgs_codec.specs.Encodable.{is_op, is_small_node, is_small_edge, adds_small, are_parts, snapshot_graph, is_sized, is_encodable}
-use Rattle.pgs_codec.specs.Payload.{snapshot_field, ops_field, payload_of}
+use Rattle.pgs_codec.specs.Encodable.{is_small_node, is_small_edge, are_parts, snapshot_graph, is_sized, is_encodable}
+use Rattle.pgs_codec.specs.Payload.{snapshot_field, payload_of}
 use Rattle.pgs_codec.proofs.encoding.write_command.Goals as goal
 
 -- the byte of a snapshot, and then its fields
@@ -45,27 +43,13 @@ returns-in_ok-write_snapshot-in-Snapshot-clause-fit c =
     snapshot_fits c.args.command.now c.in-Snapshot.commits c.in-Snapshot.nodes c.as_slice-in-Snapshot.result.now c.in-Snapshot.edges c.as_slice-in-Snapshot-2.result.now
     c.in-Snapshot.is c.as_slice-in-Snapshot.ensures c.as_slice-in-Snapshot-2.ensures c.requires c.in_ok-write_snapshot-in-Snapshot.ensures.fit
 
--- the byte of a transaction, and then its operations
-txn_written : (command : Command) (txn : Txn) (written : List Op) (old pushed new : List ℕ) →
-    command ≡ commands.Txn txn → written ≡ txn.ops → pushed ≡ old ++ 3 ∷ [] → new ≡ pushed ++ ops_field written → new ≡ old ++ payload_of command
-unfolding payload_of
-txn_written command txn written old pushed new is same h k =
-    k ∙ ap (λ (l : List ℕ). l ++ ops_field written) h ∙ append_assoc old (3 ∷ []) (ops_field written) ∙ ap (λ l. old ++ 3 ∷ ops_field l) same ∙ ap (λ c. old ++ payload_of c) (sym is)
+-- a transaction is written as such a command
+pub returns-in_ok-write_txn-in-Txn-clause-bytes : goal.returns-in_ok-write_txn-in-Txn-clause-bytes
+returns-in_ok-write_txn-in-Txn-clause-bytes c =
+    c.in_ok-write_txn-in-Txn.ensures.bytes ∙ ap (λ command. c.args.out.now.items ++ payload_of command) (sym c.in-Txn.is)
 
-txn_fits : (command : Command) (txn : Txn) (written : List Op) → command ≡ commands.Txn txn → written ≡ txn.ops → is_sized command ≡ true → list_all is_op written ≡ true → is_encodable command ≡ true
-unfolding is_encodable
-txn_fits command txn written is same sized fit =
-    let few = (and_parts (nat_lt (length txn.ops) (2 ^ 32)) (list_all adds_small txn.ops) (subst (λ c. is_sized c ≡ true) is sized)).0 in
-    subst (λ c. is_encodable c ≡ true) (sym is) (and_from (nat_lt (length txn.ops) (2 ^ 32)) (list_all is_op txn.ops) few (subst (λ l. list_all is_op l ≡ true) same fit))
-
-pub returns-in_ok-write_ops-in-Txn-clause-bytes : goal.returns-in_ok-write_ops-in-Txn-clause-bytes
-returns-in_ok-write_ops-in-Txn-clause-bytes c =
-    txn_written c.args.command.now c.in-Txn.txn c.as_slice-in-Txn.result.now c.args.out.now.items c.push-in-Txn.new.self.items c.write_ops.new.out.items
-    c.in-Txn.is c.as_slice-in-Txn.ensures c.in_ok-push-in-Txn.ensures.items c.in_ok-write_ops-in-Txn.ensures.bytes
-
-pub returns-in_ok-write_ops-in-Txn-clause-fit : goal.returns-in_ok-write_ops-in-Txn-clause-fit
-returns-in_ok-write_ops-in-Txn-clause-fit c =
-    txn_fits c.args.command.now c.in-Txn.txn c.as_slice-in-Txn.result.now c.in-Txn.is c.as_slice-in-Txn.ensures c.requires c.in_ok-write_ops-in-Txn.ensures.fit
+pub returns-in_ok-write_txn-in-Txn-clause-fit : goal.returns-in_ok-write_txn-in-Txn-clause-fit
+returns-in_ok-write_txn-in-Txn-clause-fit c = ap is_encodable c.in-Txn.is ∙ c.in_ok-write_txn-in-Txn.ensures.fit
 
 -- the byte of a schema, and then its text
 text_written : (command : Command) (text written : List ℕ) (old pushed new : List ℕ) → command ≡ commands.Schema text → written ≡ text → pushed ≡ old ++ 1 ∷ [] → new ≡ pushed ++ written → new ≡ old ++ payload_of command
