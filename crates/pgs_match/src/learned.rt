@@ -1,6 +1,9 @@
 //! What the searches of one key in one graph have learned, and the calls that use it.
 
-ghost use Rattle.std.specs.Prelude.{◌≡◌, ◌+◌, ◌*◌, ◌^◌, ◌≤◌, ℕ, true, [], length, IfOk};
+ghost use Rattle.std.specs.Prelude.{◌≡◌, ◌+◌, ◌*◌, ◌^◌, ◌≤◌, ℕ, true, length, IfOk};
+ghost use Rattle.pgs_base.specs.Graph.{Graph};
+ghost use Rattle.pgs_syntax.specs.declared.key.Key.{Key};
+ghost use Rattle.pgs_syntax.specs.declared.resolved.Resolved.{Resolved};
 ghost use Rattle.pgs_syntax.specs.KeyValues.{is_in_scope, key_values};
 ghost use Rattle.pgs_syntax.specs.Valid.{is_valid_key_of};
 ghost use Rattle.pgs_match.specs.Near.{IsSparse};
@@ -23,7 +26,7 @@ pub struct Learned {
 impl Learned {
     /// Nothing, which is right for each key and graph.
     pub fn new(alloc: Global) -> Learned
-        ensures { result.scope.items ≡ [] }
+        ensures { (resolved : Resolved) → (g : Graph) → (key : Key) → IsLearned resolved g key result }
     {
         Learned {
             scope: Vec::new(alloc),
