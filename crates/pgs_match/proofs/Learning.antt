@@ -1,10 +1,10 @@
 -- What a search from x takes and answers, by what was learned before.
-use Rattle.std.proofs.Common.{◌≡◌, ℕ, suc, ◌+◌, ◌*◌, ◌≤◌, ◌<◌, Bool, true, false, ◌==◌, ◌&&◌, not, cond, List, [], ◌∷◌, length, Option, Some, None, refl, sym, ◌∙◌, ap, subst, true≢false, arith}
+use Rattle.std.proofs.Common.{◌≡◌, ℕ, zero, suc, ◌+◌, ◌*◌, ◌≤◌, ◌<◌, Bool, true, false, ◌==◌, ◌&&◌, not, cond, List, [], ◌∷◌, length, take, Option, Some, None, refl, sym, ◌∙◌, ap, subst, true≢false, arith}
 use Rattle.std.specs.Prelude.{option_map, option_and_then}
 use Rattle.std.specs.Option.{IfSome, option_map_or}
-use Rattle.std.specs.List.{Contains, sum_by}
+use Rattle.std.specs.List.{Contains, sum_by, slice_index_or}
 use Rattle.std.proofs.Math.Nat.{mul-le-mul_right}
-use Rattle.std.proofs.lemmas.List.Sums.{sum_by-cons}
+use Rattle.std.proofs.lemmas.List.Sums.{sum_by-cons, sum_by_more}
 use Rattle.pgs_base.specs.declared.element.NodeId.{NodeId}
 use Rattle.pgs_base.specs.declared.element.EdgeId.{EdgeId}
 use Rattle.pgs_base.specs.declared.element.Elem.{Elem}
@@ -15,6 +15,7 @@ use Rattle.pgs_syntax.specs.declared.pattern.Pattern.{Pattern}
 use Rattle.pgs_syntax.specs.declared.resolved.Resolved.{Resolved}
 use Rattle.pgs_syntax.specs.Valid.{is_valid_pattern}
 use Rattle.pgs_match.specs.declared.answers.Answers.{Answers}
+use Rattle.pgs_match.specs.declared.learned.Learned.{Learned}
 use Rattle.pgs_match.specs.declared.learned.Memo.{Memo}
 use Rattle.pgs_match.specs.declared.step.Step.{Step}
 use Rattle.pgs_match.specs.declared.step.Step.TheVariants.{Along, End}
@@ -24,7 +25,7 @@ use Rattle.pgs_match.specs.declared.bindings.Bound.TheVariants as bounds
 use Rattle.pgs_match.specs.Answers.{noted, AreRight, IsClosed, unnoted, IsPaid, IsPrice, IsAmong, own_most}
 use Rattle.pgs_match.specs.Bounds.{elem_of, end_at}
 use Rattle.pgs_match.specs.Branches.{is_tree, goes_from, degree_at, step_most, asked_most}
-use Rattle.pgs_match.specs.Learned.{IsMemo, IsTaken, is_short}
+use Rattle.pgs_match.specs.Learned.{IsMemo, IsTaken, is_short, unlearned}
 use Rattle.pgs_match.specs.Plans.{bound_by, is_plan}
 use Rattle.pgs_match.specs.Search.{edges_along}
 use Rattle.pgs_match.specs.Spread.{stand_at, end_in, elem_degree}
@@ -160,15 +161,42 @@ taken_right resolved g pattern None plan memo right fresh plans tree = (
   λ var id answer found. let e : None ≡ Some answer = sym (fresh.1 var id) ∙ found in cc,
 )
 
--- and no more is owed then than before
-pub taken_owed : (g : Graph) (pairs : List Stand) (former : Option Memo) (plan : List Step) (memo : Memo) → IsTaken former plan memo →
-    unnoted g memo.answers pairs ≤ option_map_or (λ (m : Memo). unnoted g m.answers pairs) former (sum_by (λ (stand : Stand). elem_degree g stand.elem + 2) pairs)
-taken_owed g pairs (Some former) plan memo same = let e : unnoted g memo.answers pairs ≡ unnoted g former.answers pairs = ap (λ (m : Memo). unnoted g m.answers pairs) same in omega (arith, e)
-taken_owed g pairs None plan memo fresh = sum_less (owed g memo.answers) (λ (stand : Stand). elem_degree g stand.elem + 2) each pairs
+owed_most : (g : Graph) (answers : Answers) (pairs : List Stand) → unnoted g answers pairs ≤ sum_by (λ (stand : Stand). elem_degree g stand.elem + 2) pairs
+owed_most g answers pairs = sum_less (owed g answers) (λ (stand : Stand). elem_degree g stand.elem + 2) each pairs
   where
     at_most : (b : Bool) (n : ℕ) → cond b 0 n ≤ n
     at_most true n = omega arith
     at_most false n = omega arith
 
-    each : (stand : Stand) → owed g memo.answers stand ≤ elem_degree g stand.elem + 2
+    each : (stand : Stand) → owed g answers stand ≤ elem_degree g stand.elem + 2
     each stand = at_most _ (elem_degree g stand.elem + 2)
+
+-- and no more is owed then than before
+pub taken_owed : (g : Graph) (pairs : List Stand) (former : Option Memo) (plan : List Step) (memo : Memo) → IsTaken former plan memo →
+    unnoted g memo.answers pairs ≤ option_map_or (λ (m : Memo). unnoted g m.answers pairs) former (sum_by (λ (stand : Stand). elem_degree g stand.elem + 2) pairs)
+taken_owed g pairs (Some former) plan memo same = let e : unnoted g memo.answers pairs ≡ unnoted g former.answers pairs = ap (λ (m : Memo). unnoted g m.answers pairs) same in omega (arith, e)
+taken_owed g pairs None plan memo fresh = owed_most g memo.answers pairs
+
+-- ---- one element after another
+
+get_or_same : (xs : List Elem) (i : ℕ) (a b : Elem) → i < length xs → slice_index_or xs i a ≡ slice_index_or xs i b
+get_or_same [] i a b below = absurd (omega arith)
+get_or_same (x ∷ xs) zero a b below = refl
+get_or_same (x ∷ xs) (suc i) a b below = get_or_same xs i a b (omega arith)
+
+pub unlearned_most : (g : Graph) (learned : Learned) (pairs : List Stand) → unlearned g learned pairs ≤ sum_by (λ (stand : Stand). elem_degree g stand.elem + 2) pairs
+unlearned_most g learned pairs = by learned.scope
+  where
+    by : (former : Option Memo) → option_map_or (λ (m : Memo). unnoted g m.answers pairs) former (sum_by (λ (stand : Stand). elem_degree g stand.elem + 2) pairs)
+        ≤ sum_by (λ (stand : Stand). elem_degree g stand.elem + 2) pairs
+    by None = omega arith
+    by (Some m) = owed_most g m.answers pairs
+
+pub one_more : (g : Graph) (elems : List Elem) (i : ℕ) → i < length elems → (d : Elem) (start between now before after total : ℕ) →
+    between + 440 * before ≤ start + 440 * sum_by (λ (elem : Elem). elem_degree g elem + 2) (take i elems) + 440 * total →
+    (Contains elems (slice_index_or elems i d) → now + 440 * after ≤ between + 440 * before + 440 * (elem_degree g (slice_index_or elems i d) + 2)) →
+    now + 440 * after ≤ start + 440 * sum_by (λ (elem : Elem). elem_degree g elem + 2) (take (i + 1) elems) + 440 * total
+one_more g elems i below d start between now before after total first step =
+    let cost = step (i, below, get_or_same elems i (slice_index_or elems i d) d below) in
+    let more = sum_by_more (λ (elem : Elem). elem_degree g elem + 2) elems i d below in
+    omega (arith, first, cost, more)
