@@ -13,7 +13,6 @@ use Rattle.pgs_match.specs.Plans.{bound_by, is_known, and_known, known_alone, is
 use Rattle.pgs_match.proofs.Completed.{step_facts}
 use Rattle.pgs_match.proofs.Known.{known_now, known_still}
 
-
 module _ (resolved : Resolved) (g : Graph) (pattern : Pattern) (valid : is_valid_pattern pattern ≡ true) where
   -- no step binds a variable that is known
   never_again : (plan : List Step) (known : List Bool) (var : ℕ) → length known ≡ 20 → are_steps pattern.atoms known plan ≡ true → is_known known var ≡ true → is_bound_in plan var ≡ false

@@ -18,7 +18,7 @@ returns-in-Some-clause-found g c =
     let graph = g.G.GraphRead.meaning place.graph.now in
     let demands = c.as_slice.result.now in
     answer_with place.compiled.now graph c.in-Some.ensures.graph place.pattern.now c.requires.valid 0 c.requires.in_range c.args.plan.now c.requires.plan c.args.elem c.in-Some.bound (sym c.in-Some.ensures.value)
-    place.compiled.now graph demands (record { schemas = refl; graphs = refl; lists = c.as_slice.ensures; })
+    place.compiled.now graph demands (record { schemas = refl; graphs = refl; lists = c.as_slice.ensures })
     (subst (λ atoms. is_tree atoms c.args.plan.now ≡ true) (sym c.as_slice.ensures) c.requires.tree) c.given.result c.given.ensures.found
 
 pub returns-in-Some-clause-cost : goal.returns-in-Some-clause-cost
@@ -26,7 +26,7 @@ returns-in-Some-clause-cost g c =
     let place = c.args.self.now in
     let graph = g.G.GraphRead.meaning place.graph.now in
     few_asked place.compiled.now graph c.in-Some.ensures.graph place.pattern.now c.requires.valid 0 c.requires.in_range c.args.plan.now c.requires.plan c.args.elem c.in-Some.bound (sym c.in-Some.ensures.value)
-    place.compiled.now graph c.as_slice.result.now (record { schemas = refl; graphs = refl; lists = c.as_slice.ensures; })
+    place.compiled.now graph c.as_slice.result.now (record { schemas = refl; graphs = refl; lists = c.as_slice.ensures })
     c.args.steps.now c.begin.new.steps c.given.new.steps c.begin.ensures.at_most c.given.ensures.cost
 
 pub returns-in-Some-clause-once : goal.returns-in-Some-clause-once
