@@ -1,6 +1,5 @@
 -- A plan ends in each of its ends: each variable is bound by one step.
 use Rattle.std.proofs.Common.{◌≡◌, ℕ, ◌<◌, Bool, true, false, ◌||◌, ◌==◌, cond, List, [], ◌∷◌, length, replicate, refl, sym, ◌∙◌, ap, subst, true≢false}
-use Rattle.std.specs.List.{list_any}
 use Rattle.std.proofs.lemmas.Bool.{and_parts, eq-eqb, eqb-true}
 use Rattle.std.proofs.lemmas.List.{length-set}
 use Rattle.pgs_base.specs.Graph.{Graph}

@@ -5,11 +5,9 @@ use Rattle.std.specs.Option.{IfSome, option_map_or}
 use Rattle.std.specs.List.{Contains, sum_by, slice_index_or}
 use Rattle.std.proofs.Math.Nat.{mul-le-mul_right}
 use Rattle.std.proofs.lemmas.List.Sums.{sum_by-cons, sum_by_more}
-use Rattle.pgs_base.specs.declared.element.NodeId.{NodeId}
-use Rattle.pgs_base.specs.declared.element.EdgeId.{EdgeId}
 use Rattle.pgs_base.specs.declared.element.Elem.{Elem}
 use Rattle.pgs_base.specs.declared.row.EdgeRow.{EdgeRow}
-use Rattle.pgs_base.specs.Graph.{Graph, edge_at}
+use Rattle.pgs_base.specs.Graph.{Graph}
 use Rattle.pgs_syntax.specs.declared.pattern.Atom.{Atom}
 use Rattle.pgs_syntax.specs.declared.pattern.Pattern.{Pattern}
 use Rattle.pgs_syntax.specs.declared.resolved.Resolved.{Resolved}
@@ -22,7 +20,7 @@ use Rattle.pgs_match.specs.declared.step.Step.TheVariants.{Along, End}
 use Rattle.pgs_match.specs.declared.stand.Stand.{Stand}
 use Rattle.pgs_match.specs.declared.bindings.Bound.{Bound}
 use Rattle.pgs_match.specs.declared.bindings.Bound.TheVariants as bounds
-use Rattle.pgs_match.specs.Answers.{noted, AreRight, IsClosed, unnoted, IsPaid, IsPrice, IsAmong, own_most}
+use Rattle.pgs_match.specs.Answers.{unnoted, IsPaid, IsPrice, IsAmong, own_most}
 use Rattle.pgs_match.specs.Bounds.{elem_of, end_at}
 use Rattle.pgs_match.specs.Branches.{is_tree, goes_from, degree_at, step_most, asked_most}
 use Rattle.pgs_match.specs.Learned.{IsMemo, IsTaken, is_short, unlearned}

@@ -1,12 +1,12 @@
 -- What is noted of nodes at variables: that it is right, that nothing else changes, and what is paid by it.
-use Rattle.std.proofs.Common.{◌≡◌, ◌≢◌, ℕ, zero, suc, ◌+◌, ◌*◌, ◌≤◌, ◌<◌, Bool, true, false, ◌&&◌, ◌||◌, ◌==◌, not, cond, List, [], ◌∷◌, length, slice_get, Option, Some, None, refl, sym, ◌∙◌, ap, subst, true≢false, arith}
+use Rattle.std.proofs.Common.{◌≡◌, ℕ, zero, suc, ◌+◌, ◌*◌, ◌≤◌, ◌<◌, Bool, true, false, ◌&&◌, ◌||◌, ◌==◌, not, cond, List, [], ◌∷◌, length, Option, Some, None, refl, sym, ◌∙◌, ap, subst, true≢false, arith}
 use Rattle.std.specs.Prelude.{is_some, option_map, option_and_then}
 use Rattle.std.specs.Option.{option_map_or}
 use Rattle.std.specs.Ordering.{nat_cmp, ordering_then, is_eq}
 use Rattle.std.specs.Cmp.{Equal-is, nat_cmp_total, tied_itself}
 use Rattle.std.specs.List.{Contains, list_any, sum_by, slice_index_or}
 use Rattle.std.proofs.Math.Nat.{mul-le-mul_left, mul-le-mul_right}
-use Rattle.std.proofs.lemmas.Bool.{eq-eqb, eqb-true}
+use Rattle.std.proofs.lemmas.Bool.{eq-eqb}
 use Rattle.std.proofs.lemmas.List.Sums.{sum_by-cons}
 use Rattle.std.proofs.lemmas.Map.Lookups.{exact_pairs, exact_unsigned}
 use Rattle.pgs_base.specs.declared.element.NodeId.{NodeId}
@@ -21,19 +21,14 @@ use Rattle.pgs_syntax.specs.declared.pattern.Atom.{Atom}
 use Rattle.pgs_syntax.specs.declared.resolved.Resolved.{Resolved}
 use Rattle.pgs_match.specs.declared.answers.Answers.{Answers}
 use Rattle.pgs_match.specs.declared.step.Step.{Step}
-use Rattle.pgs_match.specs.declared.step.Step.TheVariants.{Along, End}
 use Rattle.pgs_match.specs.declared.stand.Stand.{Stand}
 use Rattle.pgs_match.specs.declared.bindings.Bound.{Bound}
 use Rattle.pgs_match.specs.declared.bindings.Bound.TheVariants as bounds
-use Rattle.pgs_match.specs.Answers.{place_cmp, noted, is_same_place, behind, is_bound_in, KeepsOthers, AreRight, HasAhead, IsClosed, is_given, is_noted, unnoted, IsPaid, IsPrice, IsAmong, own_most}
-use Rattle.pgs_match.specs.Bounds.{elem_of, end_at}
-use Rattle.pgs_match.specs.Branches.{goes_from, next_bounds, can_be_given, degree_at}
+use Rattle.pgs_match.specs.Answers.{place_cmp, noted, is_same_place, behind, AreRight, is_given, is_noted, unnoted, IsPrice, IsAmong, own_most}
+use Rattle.pgs_match.specs.Branches.{goes_from, next_bounds, can_be_given}
 use Rattle.pgs_match.specs.Plans.{bound_by}
-use Rattle.pgs_match.specs.Search.{edges_along}
-use Rattle.pgs_match.specs.Spread.{stand_at, end_in, edges_in, elem_degree}
+use Rattle.pgs_match.specs.Spread.{stand_at, elem_degree}
 use Rattle.pgs_match.specs.Tests.{admitted_node, admitted_edge, node_passes, edge_passes}
-use Rattle.pgs_match.proofs.Along.{at_place}
-use Rattle.pgs_match.proofs.BranchCosts.{listed_few}
 
 -- ---- places
 

@@ -68,7 +68,7 @@ impl Learned {
     }
 }
 
-// Whether a plan has at most two steps, and no second one along edges: nothing is come to twice along it.
+// Whether a plan has at most two steps, and no second one along edges: nothing hangs on a node but x, so that nothing would be noted.
 fn is_short(plan: &[Step]) -> bool
     ensures { result ≡ is_short plan.now }
 {
@@ -85,7 +85,7 @@ fn is_short(plan: &[Step]) -> bool
     }
 }
 
-// Whether answers are noted along a plan: each branch is asked by itself, and some node may be come to twice.
+// Whether answers are noted along a plan: each branch is asked by itself, and something may hang on a node that is come to.
 fn is_noted(atoms: &[Atom], plan: &[Step]) -> bool
     ensures { result ≡ (not (is_short plan.now) && is_tree atoms.now plan.now) }
 {
@@ -134,10 +134,10 @@ impl<'a, G: GraphRead> Place<'a, G> {
 /// Whether an element is in the scope of a key, by what was learned of the same key in the same graph; what is learned anew is added.
 /// The key's types are those of the schema. `Memory` where none was left; what was learned is right then too.
 ///
-/// It takes no more look-ups than [`in_scope`](crate::in_scope) may. Where the scope has no cycle and `Memory` doesn't come, all but 440
-/// times the degree plus 2 of x are paid for by nodes at variables of which nothing was learned before and something is now, each with 440
-/// times its degree plus 2 (`unlearned` in `specs/Learned.antt` of `pgs_match`): so over all calls with what the same key in the same
-/// graph taught, each node at a variable counts once. Where the scope has at most one edge variable, or a cycle, it takes no memory.
+/// It takes no more look-ups than [`in_scope`](crate::in_scope) may. Where the scope has no cycle it takes at most 440 times the degree plus
+/// 2 of the element, and 440 times the same of each pair of a variable and an element of which nothing was learned before and something
+/// is now (`unlearned` in `specs/Learned.antt` of `pgs_match`), unless `Memory` comes: so over many calls each pair counts once. Where the
+/// scope has at most one edge variable, or a cycle, it takes no memory.
 pub fn in_scope_learned<G: GraphRead, L: Ledger>(
     graph: &G,
     compiled: &Compiled,
@@ -178,8 +178,8 @@ pub fn in_scope_learned<G: GraphRead, L: Ledger>(
     Ok(found)
 }
 
-/// The key values of an element, by what was learned of the same key in the same graph; what is learned anew is added. The key's types are
-/// those of the schema. `Memory` where none was left; what was learned is right then too.
+/// The key values of an element, by what was learned of the same key in the same graph. So far nothing is learned of a descriptor. The
+/// key's types are those of the schema. `Memory` where none was left; what was learned is right then too.
 pub fn key_values_learned<G: GraphRead, L: Ledger>(
     alloc: Global,
     graph: &G,

@@ -1,9 +1,7 @@
-use Rattle.std.proofs.Common.{◌≡◌, ◌||◌, ◌+◌, ◌*◌, ◌≤◌, ◌∷◌, List, true, false, Bool, not, cond, length, Some, sym, ap, ◌∙◌, subst, arith}
+use Rattle.std.proofs.Common.{◌≡◌, ◌||◌, ◌+◌, ◌≤◌, ◌∷◌, true, false, Bool, not, cond, length, Some, sym, ap, ◌∙◌, subst, arith}
 use Rattle.std.specs.List.{Contains}
 use Rattle.std.specs.Option.{option_map_or}
-use Rattle.pgs_match.specs.declared.step.Step.{Step}
 use Rattle.pgs_match.specs.declared.bindings.Bound.TheVariants as bounds
-use Rattle.pgs_base.specs.declared.element.EdgeId.{EdgeId}
 use Rattle.pgs_match.specs.Answers.{IsClosed, IsPrice, own_most}
 use Rattle.pgs_match.specs.Branches.{goes_from, can_be_given}
 use Rattle.pgs_match.specs.Search.{edges_along}
