@@ -45,3 +45,7 @@ pub mod Passed
 pub mod Splitting
 pub mod SpreadEnds
 pub mod WayFound
+pub mod Noting
+pub mod Ending
+pub mod Remembered
+pub mod Learning

@@ -1,5 +1,5 @@
 -- What walks back from starts pass: a list that has all of it bounds what going back costs, where each stand is gone back from once.
-use Rattle.std.proofs.Common.{◌≡◌, ◌≢◌, ℕ, suc, ◌+◌, ◌*◌, ◌≤◌, ◌<◌, Bool, true, false, ◌&&◌, ◌||◌, ◌==◌, not, cond, List, [], ◌∷◌, filter, map, flat_map, length, refl, sym, ◌∙◌, ap, subst, true≢false, arith, Ordering, Less, Equal, Greater, is_lt}
+use Rattle.std.proofs.Common.{◌≡◌, ◌≢◌, ℕ, suc, ◌+◌, ◌*◌, ◌≤◌, ◌<◌, Bool, true, false, ◌&&◌, ◌||◌, ◌==◌, not, cond, List, [], ◌∷◌, filter, flat_map, length, refl, sym, ◌∙◌, ap, subst, true≢false, arith, Ordering, Less, Equal, Greater, is_lt}
 use Rattle.std.specs.List.{list_any, list_all, sum_by, Contains}
 use Rattle.std.specs.Ordering.{is_eq}
 use Rattle.std.specs.Cmp.{tied_itself, Equal-is}
@@ -22,8 +22,8 @@ use Rattle.pgs_syntax.proofs.Halves.{any_map, any_filter}
 use Rattle.pgs_match.specs.declared.step.Step.{Step}
 use Rattle.pgs_match.specs.declared.step.Step.TheVariants.{Along, End}
 use Rattle.pgs_match.specs.declared.stand.Stand.{Stand}
-use Rattle.pgs_match.specs.Plans.{bound_by, is_known, and_known, known_alone, is_step, are_steps, is_plan}
-use Rattle.pgs_match.specs.Spread.{elems_at, back_most, one_back, led_back, one_most, once_most, HasAll, HasPassed, elem_degree}
+use Rattle.pgs_match.specs.Plans.{bound_by, is_known, and_known, is_step, are_steps}
+use Rattle.pgs_match.specs.Spread.{elems_at, back_most, one_back, led_back, one_most, once_most, HasPassed, elem_degree}
 use Rattle.pgs_match.proofs.Completed.{step_facts}
 use Rattle.pgs_match.proofs.Known.{known_now}
 use Rattle.pgs_match.proofs.Leading.{most_parts, led_none, any_twice}

@@ -1,10 +1,9 @@
 -- What stands at the first variable in the end, where one went back from starts by the steps of a plan: what the matches reach from them; near them,
 -- and little where few edges are near.
-use Rattle.std.proofs.Common.{◌≡◌, ℕ, zero, suc, ◌+◌, ◌*◌, ◌^◌, ◌≤◌, ◌<◌, Bool, true, false, ◌&&◌, ◌||◌, ◌==◌, cond, List, [], ◌∷◌, ◌++◌, filter, map, flat_map, length, get_or, slice_get, Some, refl, sym, ◌∙◌, ap, subst, true≢false, arith}
+use Rattle.std.proofs.Common.{◌≡◌, ℕ, zero, suc, ◌+◌, ◌*◌, ◌^◌, ◌≤◌, ◌<◌, Bool, true, false, ◌&&◌, ◌==◌, cond, List, [], ◌∷◌, ◌++◌, filter, map, flat_map, length, get_or, slice_get, Some, refl, sym, ◌∙◌, ap, subst, arith}
 use Rattle.std.specs.Prelude.{nat_lt}
 use Rattle.std.specs.List.{list_any, list_all, sum_by, Contains}
-use Rattle.std.specs.Ordering.{is_eq}
-use Rattle.std.specs.Cmp.{tied_itself, Equal-is}
+use Rattle.std.specs.Cmp.{Equal-is}
 use Rattle.std.proofs.lemmas.Bool.{and_parts, and_from, ltb-true, eq-eqb}
 use Rattle.std.proofs.lemmas.List.Elements.{All-contains_itself, All-weaker, filter_passes}
 use Rattle.std.proofs.lemmas.List.Folds.{list_any_at, Any-from_list_any}
@@ -12,14 +11,14 @@ use Rattle.std.proofs.lemmas.List.Sums.{sum_by-cons, sum_by-le}
 use Rattle.pgs_base.specs.declared.element.Elem.{Elem}
 use Rattle.pgs_base.specs.Graph.{Graph, is_graph}
 use Rattle.pgs_base.specs.Order.{elem_cmp}
-use Rattle.pgs_base.specs.OrderLaws.{elem_cmp_total, exact_elem}
+use Rattle.pgs_base.specs.OrderLaws.{exact_elem}
 use Rattle.pgs_syntax.specs.declared.pattern.Pattern.{Pattern}
 use Rattle.pgs_syntax.specs.declared.resolved.Resolved.{Resolved}
 use Rattle.pgs_syntax.specs.KeyValues.{starts_at}
 use Rattle.pgs_syntax.specs.Matches.{same_elem, elements}
 use Rattle.pgs_syntax.specs.Valid.{edge_count, is_valid_pattern}
 use Rattle.pgs_syntax.proofs.Assigned.{match_found}
-use Rattle.pgs_syntax.proofs.Halves.{any_map, any_filter, any_flat_map}
+use Rattle.pgs_syntax.proofs.Halves.{any_flat_map}
 use Rattle.pgs_match.specs.declared.step.Step.{Step}
 use Rattle.pgs_match.specs.declared.stand.Stand.{Stand}
 use Rattle.pgs_match.specs.Bounds.{stands_at}

@@ -10,3 +10,4 @@ pub mod Asks
 pub mod Routes
 pub mod Spread
 pub mod Learned
+pub mod Answers

@@ -1,6 +1,6 @@
 //! The calls on a planned key.
 
-ghost use Rattle.std.specs.Prelude.{◌≡◌, ◌+◌, ◌*◌, ◌^◌, ◌<◌, ◌≤◌, ◌==◌, ◌||◌, ℕ, true, length, map, filter_map, IfOk};
+ghost use Rattle.std.specs.Prelude.{◌≡◌, ◌+◌, ◌*◌, ◌^◌, ◌<◌, ◌≤◌, ◌==◌, ◌||◌, ℕ, true, length, map, filter_map, IfOk, OnOk};
 ghost use Rattle.std.specs.List.{All, Contains, list_all, sum_by};
 ghost use Rattle.pgs_base.specs.declared.element.Elem.{Elem};
 ghost use Rattle.pgs_base.specs.Order.{ascends, elem_cmp};
@@ -10,6 +10,7 @@ ghost use Rattle.pgs_syntax.specs.Valid.{is_edge_var, is_valid_key_of};
 ghost use Rattle.pgs_match.specs.declared.step.Step.{Step};
 ghost use Rattle.pgs_match.specs.Branches.{has_no_cycle, walked_from};
 ghost use Rattle.pgs_match.specs.Plans.{is_plan};
+ghost use Rattle.pgs_match.specs.Learned.{HasSearched};
 ghost use Rattle.pgs_match.specs.Near.{HasDegreesWithin, IsSparse};
 ghost use Rattle.pgs_match.specs.Reached.{reached};
 ghost use Rattle.pgs_match.specs.Planned.{most_edges, pattern_of, taken, first_elem};
@@ -19,7 +20,7 @@ ghost use Rattle.pgs_match.specs.Spread.{IsNearSome, AreSparseFrom, HasPassed, a
 
 use crate::searching::Place;
 use crate::spreading::parted;
-use crate::{PlannedKey, Search, Side, Stand, in_order};
+use crate::{Learned, PlannedKey, Search, Side, Stand, in_order, in_scope_learned};
 use pgs_base::{EdgeId, Elem, List, Memory, NodeId, Part, Steps, Tuple, TupleSet};
 use pgs_conform::Compiled;
 use pgs_graph::GraphRead;
@@ -239,10 +240,12 @@ fn edge_elems(alloc: Global, ids: &[EdgeId]) -> Result<List<Elem>, Memory>
 }
 
 /// The scope of a key, ascending, for a key whose types are those of the schema. The rule is `scope_of` of `pgs_syntax`. It asks
-/// [`in_scope`] once for each element of the kind of x.
+/// [`in_scope_learned`] once for each element of the kind of x, and what it learns of one serves all.
 ///
 /// At every exit it has taken at most 17 * (d + 2)^(w + 1) look-ups for each of these, where no node of the graph has an in-degree plus
-/// out-degree over d.
+/// out-degree over d. Where the scope has no cycle and `Memory` doesn't come, it takes a look-up for each, and at most 440 times the
+/// degrees plus 2 of all of these and of the pairs of a variable and an element that walks along the scope from them come to, each
+/// counted once.
 pub fn each_x<G: GraphRead, L: Ledger>(
     alloc: Global,
     graph: &G,
@@ -256,12 +259,19 @@ pub fn each_x<G: GraphRead, L: Ledger>(
     ensures cost { (most : ℕ) → HasDegreesWithin (G.meaning graph.now) most →
         steps.new ≤ steps.old + length (elements (G.meaning graph.now) (is_edge_var key.now.scope.edge_vars 0))
         * (17 * (most + 2) ^ (most_edges key.now + 1)) }
+    ensures once { has_no_cycle key.now.scope ≡ true → (pairs : List Stand) → ((elem : Elem) →
+        Contains (elements (G.meaning graph.now) (is_edge_var key.now.scope.edge_vars 0)) elem → HasSearched compiled.now (G.meaning graph.now) key.now.scope elem pairs) →
+        OnOk result (steps.new ≤ steps.old + length (elements (G.meaning graph.now) (is_edge_var key.now.scope.edge_vars 0))
+        + 440 * sum_by (λ (elem : Elem). elem_degree (G.meaning graph.now) elem + 2) (elements (G.meaning graph.now) (is_edge_var key.now.scope.edge_vars 0))
+        + 440 * sum_by (λ (stand : Stand). elem_degree (G.meaning graph.now) stand.elem + 2) pairs) }
 {
     let elements = each_element(alloc, graph, key, steps)?;
     let elems = elements.as_slice();
+    let mut learned = Learned::new(alloc);
     let mut scope = Vec::new(alloc);
     for elem in elems {
-        if in_scope(graph, compiled, key, *elem, steps) {
+        let found = in_scope_learned(graph, compiled, key, *elem, &mut learned, steps)?;
+        if found {
             scope.push(*elem)?;
         }
     }

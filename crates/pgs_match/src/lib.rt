@@ -19,6 +19,7 @@
 #![tactic(auto)]
 
 mod admission;
+mod answers;
 mod asked;
 mod bindings;
 mod branch;
@@ -35,6 +36,7 @@ mod plan;
 mod planned;
 mod planner;
 mod reads;
+mod remembering;
 pub mod samples;
 mod search;
 mod searching;

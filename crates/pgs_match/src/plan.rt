@@ -47,7 +47,7 @@ fn is_taken(exprs: &[Expr], var: u32) -> bool
 }
 
 // Whether some step goes from a variable.
-fn is_left(ways: &[Step], var: u32) -> bool
+pub(crate) fn is_left(ways: &[Step], var: u32) -> bool
     ensures { result ≡ list_any (goes_from var) ways.now }
 {
     ways.iter().any(|step| step.goes_from(var))

@@ -8,7 +8,9 @@ ghost use Rattle.pgs_syntax.specs.Matches.{matches};
 ghost use Rattle.pgs_syntax.specs.Valid.{edge_count, read_var, is_valid_pattern, names_types};
 ghost use Rattle.pgs_match.specs.Plans.{is_plan};
 ghost use Rattle.pgs_match.specs.Branches.{is_tree, walked_from};
+ghost use Rattle.pgs_match.specs.Learned.{is_short};
 ghost use Rattle.pgs_match.specs.Planned.{IsSplit};
+ghost use Rattle.pgs_match.specs.Spread.{elem_degree};
 ghost use Rattle.pgs_match.specs.Routes.{routed_from};
 ghost use Rattle.pgs_match.specs.Bounds.{with_bound, nothing_bound, stands_at};
 ghost use Rattle.pgs_match.specs.Near.{IsSparse};
@@ -55,8 +57,8 @@ impl<'a, G: GraphRead> Place<'a, G> {
         }
     }
 
-    // To what the element binds the variable, if it is of its kind, is there and passes. At most three look-ups.
-    fn begin<L: Ledger>(
+    /// To what the element binds the variable, if it is of its kind, is there and passes. At most three look-ups.
+    pub(crate) fn begin<L: Ledger>(
         &self,
         search: &Search<'a, G>,
         var: u32,
@@ -98,6 +100,8 @@ impl<'a, G: GraphRead> Place<'a, G> {
             steps.new ≤ steps.old + 16 * (most + 2) ^ (w + 1) }
         ensures adds { is_tree self.now.pattern.now.atoms plan.now ≡ true → steps.new ≤ steps.old
             + 80 * walked_from self.now.compiled.now (G.meaning self.now.graph.now) self.now.pattern.now plan.now var elem }
+        ensures short { is_tree self.now.pattern.now.atoms plan.now ≡ true → is_short plan.now ≡ true →
+            steps.new ≤ steps.old + 440 * (elem_degree (G.meaning self.now.graph.now) elem + 2) }
     {
         let search = self.search();
         match self.begin(&search, var, elem, steps) {

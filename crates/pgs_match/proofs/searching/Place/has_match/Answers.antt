@@ -1,7 +1,10 @@
-use Rattle.std.proofs.Common.{ap, sym, ◌∙◌, arith}
+use Rattle.std.proofs.Common.{◌+◌, ◌*◌, ◌≤◌, ap, sym, subst, ◌∙◌, arith}
 use Rattle.pgs_match.specs.Search.{can_complete, most_steps}
+use Rattle.pgs_match.specs.Spread.{elem_degree}
 use Rattle.pgs_match.proofs.Asking.{answer_with, few_asked, walks_asked, walks_without}
+use Rattle.pgs_match.proofs.Learning.{short_paid}
 use Rattle.pgs_match.proofs.Searched.{found_with, found_without, cost_with, cost_without}
+use Rattle.pgs_match.proofs.Started.{admitted_good}
 use Rattle.pgs_match.proofs.searching.Place.has_match.Goals as goal
 
 pub returns-then-is_tree-clause-found : goal.returns-then-is_tree-clause-found
@@ -93,3 +96,18 @@ pub returns-clause-adds : goal.returns-clause-adds
 returns-clause-adds g c =
     let place = c.args.self.now in
     λ tree. walks_without place.compiled.now (g.G.GraphRead.meaning place.graph.now) place.pattern.now c.args.plan.now c.args.var c.args.elem c.in-None.ensures.value c.args.steps.now c.begin.new.steps c.begin.ensures.at_most
+
+pub returns-then-is_tree-clause-short : goal.returns-then-is_tree-clause-short
+returns-then-is_tree-clause-short g c =
+    let place = c.args.self.now in
+    let graph = g.G.GraphRead.meaning place.graph.now in
+    let search = c.search-search.result in
+    let other = g.G.GraphRead.meaning search.graph.now in
+    λ tree short.
+    subst (λ h. c.can_be_given.new.steps ≤ c.args.steps.now + 440 * (elem_degree h c.args.elem + 2)) (ap (λ r. g.G.GraphRead.meaning r.now) c.search-search.ensures.graph)
+    (short_paid search.compiled.now other search.atoms.now c.args.var c.args.elem c.in-Some.bound
+    (admitted_good place.compiled.now graph place.pattern.now c.args.var c.args.elem c.in-Some.bound (sym c.in-Some.ensures.value)).1
+    c.args.plan.now short c.args.steps.now c.begin.new.steps c.can_be_given.new.steps c.begin.ensures.at_most c.can_be_given.ensures.cost)
+
+pub returns-clause-short : goal.returns-clause-short
+returns-clause-short g c = λ tree short. omega (arith, c.begin.ensures.at_most)
