@@ -10,6 +10,7 @@ pub mod Indexed
 pub mod KeyFirst
 pub mod KeyList
 pub mod Least
+pub mod LocalRows
 pub mod OneKey
 pub mod Own
 pub mod Owned

@@ -1,6 +1,7 @@
 -- What the rows of one key say of it: its first violation, or that they are all that differs.
-use Rattle.std.proofs.Common.{◌≡◌, inl, inr, ℕ, Bool, true, false, List, [], map, Option, Some, None, slice_get, refl, sym, ◌∙◌, ap, Result, Ok, Err, IfErr, IfOk, OnOk}
+use Rattle.std.proofs.Common.{◌≡◌, ◌==◌, inl, inr, ℕ, Bool, true, false, List, [], ◌∷◌, length, map, Option, Some, None, slice_get, refl, sym, ◌∙◌, ap, arith, Result, Ok, Err, IfErr, IfOk, OnOk}
 use Rattle.std.specs.Prelude.{if◌then◌else◌}
+use Rattle.std.proofs.lemmas.Bool.{eqb-true}
 use Rattle.pgs_base.specs.declared.element.Elem.{Elem}
 use Rattle.pgs_base.specs.declared.part.Part.{Part}
 use Rattle.pgs_base.specs.Graph.{Graph, is_graph}
@@ -22,6 +23,7 @@ use Rattle.pgs_check.specs.declared.checking.CheckFault.{CheckFault}
 use Rattle.pgs_check.specs.declared.checking.CheckFault.TheVariants as faults
 use Rattle.pgs_check.proofs.Firsts.{none_first}
 use Rattle.pgs_check.proofs.KeyFirst.{key_first}
+use Rattle.pgs_check.proofs.Owned.{elems_again}
 use Rattle.pgs_check.proofs.Owners.{owner_of, owners_are}
 
 pub one_row : (resolved : Resolved) (g h : Graph) (key : Key) (elem : Elem) → HasOneRow resolved g h key elem → values_in_scope resolved g key elem ≡ values_in_scope resolved h key elem
@@ -42,7 +44,7 @@ none_outside : (bounds : Option (ℕ × ℕ)) (number : ℕ) → first_outside b
 none_outside None number = refl
 none_outside (Some bounds) number = refl
 
-no_rows_first : (asked : Qualifiers) (number : ℕ) (owner : List Part → Option Elem) → first_of_rows asked number owner [] ≡ None
+pub no_rows_first : (asked : Qualifiers) (number : ℕ) (owner : List Part → Option Elem) → first_of_rows asked number owner [] ≡ None
 no_rows_first asked number owner =
     ap (λ o. first_or o (first_several asked number owner [])) (none_asked asked.mandatory)
     ∙ ap (λ o. first_or o (first_shared asked number owner [])) (none_asked asked.singleton)
@@ -82,17 +84,33 @@ module _ (resolved : Resolved) (g h : Graph) (before : is_graph g ≡ true) (aft
   rows_are items (Ok kept) same = record { elems = changed; are = same ∙ are; ascending = order; others = others }
   rows_are items (Err fault) same = tt
 
--- where every element is alike in both graphs
-module _ (resolved : Resolved) (g h : Graph) (before : is_graph g ≡ true) (after : is_graph h ≡ true) (keys : List Key) (number : ℕ) (key : Key)
-    (at_number : key_at keys number ≡ Some key) (index : IndexState) (stands : StandsFor resolved g keys index) (none : key_violations resolved g number key ≡ [])
-    (alike : (elem : Elem) → IsAlike resolved g h key elem) where
-  pub nothing_alike : key_violations resolved h number key ≡ []
-  nothing_alike =
-      nothing_found resolved g h before after keys number key at_number index stands none [] refl (λ elem beside. alike_row resolved g h key elem (alike elem)) [] refl
-      {T = List KeyChange} (Ok []) (λ owner owns. no_rows_first key.qualifiers number owner)
+-- ---- the rows of a key
 
-  pub no_rows : (rows : List KeyChange) → rows ≡ [] → AreRows number (values_in_scope resolved g key) (values_in_scope resolved h key) rows
-  no_rows rows is = record { elems = []; are = is; ascending = refl; others = λ elem beside. alike_row resolved g h key elem (alike elem) }
+pub none_listed : (rows : List KeyChange) → (length rows == 0) ≡ true → rows ≡ []
+none_listed [] h = refl
+none_listed (row ∷ rows) h = let none = eqb-true (length (row ∷ rows)) 0 h in absurd (omega (arith, none))
+
+module _ (resolved : Resolved) (g h : Graph) (key : Key) (number : ℕ) where
+  abbrev Right : List KeyChange → Type 0
+  Right = AreRows number (values_in_scope resolved g key) (values_in_scope resolved h key)
+
+  -- none, where every element is alike in both graphs
+  pub no_rows : ((elem : Elem) → IsAlike resolved g h key elem) → (rows : List KeyChange) → rows ≡ [] → Right rows
+  no_rows alike rows is = record { elems = []; are = is; ascending = refl; others = λ elem beside. alike_row resolved g h key elem (alike elem) }
+
+  -- those of elements beside which each has one row
+  pub searched_are : (elems : List Elem) → ascends elem_cmp elems ≡ true → ((elem : Elem) → is_one_of elems elem ≡ false → HasOneRow resolved g h key elem) →
+      (new : Graph) → new ≡ h → (given : List Elem) → given ≡ elems → (rows : List KeyChange) → rows ≡ map (change_of number (values_in_scope resolved new key)) given → Right rows
+  searched_are elems order others new same given is rows are = record {
+    elems = elems;
+    are = are ∙ (λ i. map (change_of number (values_in_scope resolved (same i) key)) (is i));
+    ascending = order;
+    others = λ elem beside. one_row resolved g h key elem (others elem beside);
+  }
+
+  -- the elements of rows
+  pub its_elems : (rows : List KeyChange) → (are : Right rows) → map (λ (row : KeyChange). row.elem) rows ≡ are.elems
+  its_elems rows are = ap (map (λ (row : KeyChange). row.elem)) are.are ∙ elems_again number (values_in_scope resolved h key) are.elems
 
 -- a fault that names the first of one list names the first of another with the same first
 pub first_passed_on : (xs ys : List Violation) (fault : CheckFault) → ((v : Violation) → slice_get xs 0 ≡ Some v → slice_get ys 0 ≡ Some v) → IsFirstOf xs fault → IsFirstOf ys fault

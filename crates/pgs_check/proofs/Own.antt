@@ -9,6 +9,7 @@ use Rattle.std.proofs.lemmas.Bool.{and_parts, and_from, ltb-true}
 use Rattle.pgs_base.specs.declared.element.Elem.{Elem}
 use Rattle.pgs_base.specs.declared.element.Elem.TheVariants as elems
 use Rattle.pgs_base.specs.declared.element.NodeId.{NodeId}
+use Rattle.pgs_base.specs.declared.element.EdgeId.{EdgeId}
 use Rattle.pgs_base.specs.declared.part.Part.{Part}
 use Rattle.pgs_base.specs.declared.part.Part.TheVariants as parts
 use Rattle.pgs_base.specs.declared.row.NodeRow.{NodeRow}
@@ -30,7 +31,7 @@ use Rattle.pgs_match.specs.declared.bindings.Bound.TheVariants as bounds
 use Rattle.pgs_match.specs.Bounds.{elem_of, bound_at, with_bound, nothing_bound, stands_at}
 use Rattle.pgs_match.specs.Plans.{is_plan, covers, known_alone}
 use Rattle.pgs_match.specs.Search.{part_at, tuple_at, can_complete, gathered}
-use Rattle.pgs_match.specs.Tests.{agrees, node_passes, own_passes, admitted, admitted_node}
+use Rattle.pgs_match.specs.Tests.{agrees, node_passes, own_passes, admitted, admitted_node, admitted_edge}
 use Rattle.pgs_match.proofs.Values.{descriptor_valid, scope_valid, exprs_inside, found_by_matches, gathered_are_values}
 use Rattle.pgs_keyindex.specs.Standing.{values_in_scope}
 use Rattle.pgs_check.specs.Own.{IsNodeAlone, IsLocal, own_part, own_tuple, own_tuples}
@@ -65,7 +66,18 @@ speaks : (pattern : Pattern) → is_valid_pattern pattern ≡ true → IsNodeAlo
 speaks pattern valid alone =
     subst (λ vars. list_all (speaks_of vars) pattern.atoms ≡ true) alone (and_parts _ _ (and_parts _ _ (and_parts _ _ valid).0).0).1
 
--- ---- one pattern, and a node
+-- ---- one pattern, and an element
+
+module _ (resolved : Resolved) (g : Graph) (pattern : Pattern) (valid : is_valid_pattern pattern ≡ true) (alone : IsNodeAlone pattern) where
+  unadmitted : (elem : Elem) → admitted resolved g pattern 0 elem ≡ None → list_any (stands_at 0 elem) (matches resolved g pattern) ≡ false
+  unadmitted elem none =
+      sym (found_by_matches resolved g pattern valid 0 (one_var pattern alone) [] (one_plan pattern alone) elem)
+      ∙ ap (λ o. option_map_or (λ x. can_complete resolved g pattern.atoms [] (with_bound nothing_bound 0 x)) o false) none
+
+  -- an edge doesn't stand there
+  pub no_edge_stands : (id : EdgeId) → list_any (stands_at 0 (elems.Edge id)) (matches resolved g pattern) ≡ false
+  no_edge_stands id =
+      unadmitted (elems.Edge id) (ap (λ vars. cond (is_edge_var vars 0) (admitted_edge resolved g pattern.atoms 0 id) None) alone)
 
 module _ (resolved : Resolved) (g : Graph) (pattern : Pattern) (valid : is_valid_pattern pattern ≡ true) (alone : IsNodeAlone pattern) (id : NodeId) where
   absent : node_at g id ≡ None → admitted resolved g pattern 0 (elems.Node id) ≡ None
@@ -74,9 +86,7 @@ module _ (resolved : Resolved) (g : Graph) (pattern : Pattern) (valid : is_valid
       ∙ ap (option_and_then (λ own. cond (node_passes resolved pattern.atoms 0 own) (Some (bounds.Node id)) None)) none
 
   pub none_stands : node_at g id ≡ None → list_any (stands_at 0 (elems.Node id)) (matches resolved g pattern) ≡ false
-  none_stands none =
-      sym (found_by_matches resolved g pattern valid 0 (one_var pattern alone) [] (one_plan pattern alone) (elems.Node id))
-      ∙ ap (λ o. option_map_or (λ x. can_complete resolved g pattern.atoms [] (with_bound nothing_bound 0 x)) o false) (absent none)
+  none_stands none = unadmitted resolved g pattern valid alone (elems.Node id) (absent none)
 
   module _ (own : NodeRow) (there : node_at g id ≡ Some own) where
     pub own_is : own_passes resolved pattern 0 (elems.Node id) own ≡ node_passes resolved pattern.atoms 0 own

@@ -1,6 +1,7 @@
 -- The row of a node under a key whose two patterns are one node variable each: it is told by the node's own labels and properties.
-use Rattle.std.specs.Prelude.{◌≡◌, ℕ, Bool, false, List, [], ◌∷◌, Option, Some, option_map, option_and_then, cond}
+use Rattle.std.specs.Prelude.{◌≡◌, ℕ, Bool, true, false, ◌&&◌, ◌||◌, not, List, [], ◌∷◌, Option, Some, None, option_map, option_and_then, cond}
 use Rattle.std.specs.Option.{option_map_or}
+use Rattle.std.specs.List.{list_all}
 use Rattle.pgs_base.specs.declared.element.Elem.{Elem}
 use Rattle.pgs_base.specs.declared.part.Part.{Part}
 use Rattle.pgs_base.specs.declared.part.Part.TheVariants as parts
@@ -13,6 +14,9 @@ use Rattle.pgs_syntax.specs.declared.pattern.Expr.{Expr}
 use Rattle.pgs_syntax.specs.declared.pattern.Expr.TheVariants.{Element, Property}
 use Rattle.pgs_syntax.specs.declared.pattern.Pattern.{Pattern}
 use Rattle.pgs_syntax.specs.declared.resolved.Resolved.{Resolved}
+use Rattle.pgs_check_affected.specs.declared.known.Known.{Known}
+use Rattle.pgs_check_affected.specs.Unseen.{is_one_outcome, is_one_value, row_passes, value_of}
+use Rattle.pgs_keyindex.specs.declared.change.KeyChange.{KeyChange}
 
 -- a pattern is one node variable, and both patterns of a key are
 abbrev pub IsNodeAlone : Pattern → Type 0
@@ -35,3 +39,31 @@ own_tuple elem props (expr ∷ exprs) =
 abbrev pub own_tuples : Resolved → Key → Elem → NodeRow → List (List Part)
 own_tuples resolved key elem own =
     cond (own_passes resolved key.descriptor 0 elem own) (option_map_or (λ tuple. tuple ∷ []) (own_tuple elem own.props key.exprs) []) []
+
+-- the same of an element by its row, where it has one that passes the scope's test too
+abbrev pub values_by_row : Resolved → Key → Elem → Option NodeRow → Option (List (List Part))
+values_by_row resolved key elem None = None
+values_by_row resolved key elem (Some own) = cond (own_passes resolved key.scope 0 elem own) (Some (own_tuples resolved key elem own)) None
+
+-- whether both rows of an element of a change give an expression over x the same
+abbrev pub keeps_part : Known → Expr → Bool
+keeps_part known (Element var) = true
+keeps_part known (Property var name) = is_one_value (value_of name known.before) (value_of name known.after)
+
+-- whether both pass the descriptor's test or neither does, and both give all expressions the same
+abbrev pub keeps_tuples : Resolved → Key → Known → Bool
+keeps_tuples resolved key known =
+    is_one_outcome (row_passes resolved key.descriptor 0 known.elem known.before) (row_passes resolved key.descriptor 0 known.elem known.after)
+    && list_all (keeps_part known) key.exprs
+
+-- whether an element of a change may have another place in the scope or other key values: one of its rows passes the scope's test, and
+-- not both with the same key values
+abbrev pub is_altered : Resolved → Key → Known → Bool
+is_altered resolved key known =
+    let was = row_passes resolved key.scope 0 known.elem known.before in
+    let is = row_passes resolved key.scope 0 known.elem known.after in
+    cond (was && is) (not (keeps_tuples resolved key known)) (was || is)
+
+-- the row of an element of a change, by its new row
+abbrev pub altered_to : Resolved → Key → ℕ → Known → KeyChange
+altered_to resolved key number known = record { key = number; elem = known.elem; values = values_by_row resolved key known.elem known.after }

@@ -20,8 +20,8 @@ ghost use Rattle.pgs_check.specs.Costs.{HaveEdgesWithin};
 ghost use Rattle.pgs_check.specs.Rows.{first_outside, first_of_rows};
 ghost use Rattle.pgs_check.specs.Standing.{IsFirst, IsFirstOf, IsFound, AreRows, AreChanges, ChangeEachOnce, index_changed};
 
+use crate::changed_rows::changed_rows;
 use crate::check_types;
-use crate::key_rows::key_rows;
 use crate::rule::{Rule, first_found, first_if};
 use crate::sharing::Owners;
 use pgs_base::{Elem, List, Memory, Steps};
@@ -133,6 +133,17 @@ fn first_of_changed<L: Ledger>(
     first_of_rows(alloc, &owners, asked, rows, steps)
 }
 
+// The elements of rows, in their order.
+fn elems_of(alloc: Global, rows: &[KeyChange]) -> Result<Vec<Elem>, Memory>
+    ensures { IfOk result (λ elems. elems.items ≡ map (λ (row : KeyChange). row.elem) rows.now) }
+{
+    let mut elems = Vec::with_capacity(alloc, rows.len())?;
+    for row in rows {
+        elems.push(row.elem)?;
+    }
+    Ok(elems)
+}
+
 // The rows of the changed elements, where they make no violation of the key.
 fn kept_rows<L: Ledger>(
     alloc: Global,
@@ -163,8 +174,7 @@ fn kept_rows<L: Ledger>(
     }
 }
 
-// The rows of one key, of this number, from the elements that the change affects, where the changed graph doesn't violate it. No list is
-// made where the change can't alter anything under the key.
+// The rows of one key, of this number, that the change may alter, where the changed graph doesn't violate it.
 fn check_key<L: Ledger>(
     alloc: Global,
     index: &KeyIndex,
@@ -192,12 +202,13 @@ fn check_key<L: Ledger>(
 {
     // The count's clause says that what is read is a graph.
     let _facts = new.count();
-    if !change.can_alter(compiled, key) {
-        return Ok(Vec::new(alloc));
+    let rows = changed_rows(alloc, compiled, number, key, change, new, steps)?;
+    let given = rows.as_slice();
+    if given.is_empty() {
+        return Ok(rows);
     }
-    let changed = change.affected(alloc, compiled, key, steps)?;
+    let changed = elems_of(alloc, given)?;
     let elems = changed.as_slice();
-    let rows = key_rows(alloc, new, compiled, number, key, elems, steps)?;
     kept_rows(alloc, index, number, key, elems, rows, steps)
 }
 

@@ -9,16 +9,17 @@ ghost use Rattle.pgs_check.specs.Standing.{AreRows, AreChanges};
 
 use crate::checking::append;
 use crate::key_rows::key_row;
+use crate::own_row::is_local;
 use pgs_base::{List, Memory, Seed, Steps};
 use pgs_conform::Compiled;
 use pgs_graph::GraphRead;
 use pgs_keyindex::{KeyChange, KeyIndex};
-use pgs_match::{PlannedKey, each_element};
+use pgs_match::{Learned, PlannedKey, each_element};
 use std::alloc::Global;
 use std::sync::ledger::Ledger;
 
 // The rows of a key's scope, which are all that the graph has and the empty graph lacks. Each element is asked whether it is in the scope,
-// and its key values are searched right after, while its row is at hand.
+// and its key values are searched right after, while its row is at hand; what the searches learn of other elements serves all rows.
 fn scope_rows<G: GraphRead, L: Ledger>(
     alloc: Global,
     graph: &G,
@@ -35,9 +36,21 @@ fn scope_rows<G: GraphRead, L: Ledger>(
 {
     let elements = each_element(alloc, graph, key, steps)?;
     let elems = elements.as_slice();
+    let local = is_local(key);
+    let mut learned = Learned::new(alloc);
     let mut rows = Vec::new(alloc);
     for elem in elems {
-        let row = key_row(alloc, graph, compiled, number, key, *elem, steps)?;
+        let row = key_row(
+            alloc,
+            graph,
+            compiled,
+            number,
+            key,
+            local,
+            *elem,
+            &mut learned,
+            steps,
+        )?;
         if row.values.is_some() {
             rows.push(row)?;
         }

@@ -3,22 +3,24 @@
 ghost use Rattle.std.specs.Prelude.{◌≡◌, ◌+◌, ◌*◌, ◌^◌, ◌≤◌, ℕ, true, map, length, IfOk};
 ghost use Rattle.std.specs.List.{All, sum_by};
 ghost use Rattle.pgs_syntax.specs.Valid.{is_valid_key_of};
+ghost use Rattle.pgs_match.specs.Learned.{IsLearned};
 ghost use Rattle.pgs_match.specs.Near.{IsSparse};
 ghost use Rattle.pgs_match.specs.Planned.{most_edges};
 ghost use Rattle.pgs_keyindex.specs.Standing.{values_in_scope};
 ghost use Rattle.pgs_check.specs.Clashes.{tuples_of};
+ghost use Rattle.pgs_check.specs.Own.{IsLocal};
 ghost use Rattle.pgs_check.specs.Rows.{change_of};
 
-use crate::own_row::{is_local, own_values};
+use crate::own_row::own_values;
 use pgs_base::{Elem, Memory, Steps};
 use pgs_conform::Compiled;
 use pgs_graph::GraphRead;
 use pgs_keyindex::KeyChange;
-use pgs_match::{PlannedKey, in_scope, key_values};
+use pgs_match::{Learned, PlannedKey, in_scope_learned, key_values_learned};
 use std::alloc::Global;
 use std::sync::ledger::Ledger;
 
-// The row of an element, searched for in both patterns.
+// The row of an element, searched for in both patterns by what was learned of the same key in the same graph.
 fn searched_row<G: GraphRead, L: Ledger>(
     alloc: Global,
     graph: &G,
@@ -26,24 +28,28 @@ fn searched_row<G: GraphRead, L: Ledger>(
     number: u32,
     key: &PlannedKey,
     elem: Elem,
+    learned: &mut Learned,
     steps: &mut Steps<L>,
 ) -> Result<KeyChange, Memory>
-    requires { is_valid_key_of compiled.now key.now ≡ true }
+    requires typed { is_valid_key_of compiled.now key.now ≡ true }
+    requires learned { IsLearned compiled.now (G.meaning graph.now) key.now learned.old }
     ensures row { IfOk result (λ row. row ≡ change_of number (values_in_scope compiled.now (G.meaning graph.now) key.now) elem) }
+    ensures learned { IsLearned compiled.now (G.meaning graph.now) key.now learned.new }
     ensures no_step_back { steps.old ≤ steps.new }
     ensures cost { (most : ℕ) → IsSparse (G.meaning graph.now) (most_edges key.now) elem most →
         steps.new ≤ steps.old + 32 * (most + 2) ^ (most_edges key.now + 1) }
     ensures few { (most : ℕ) → IsSparse (G.meaning graph.now) (most_edges key.now) elem most →
         IfOk result (λ row. length (tuples_of row) ≤ (most + 2) ^ most_edges key.now) }
 {
-    if !in_scope(graph, compiled, key, elem, steps) {
+    let is_found = in_scope_learned(graph, compiled, key, elem, learned, steps)?;
+    if !is_found {
         return Ok(KeyChange {
             key: number,
             elem,
             values: None,
         });
     }
-    let tuples = key_values(alloc, graph, compiled, key, elem, steps)?;
+    let tuples = key_values_learned(alloc, graph, compiled, key, elem, learned, steps)?;
     Ok(KeyChange {
         key: number,
         elem,
@@ -51,18 +57,24 @@ fn searched_row<G: GraphRead, L: Ledger>(
     })
 }
 
-/// The row of an element, with its key values where it is in the scope. Where both patterns are one node variable nothing is searched.
+/// The row of an element, with its key values where it is in the scope. Where both patterns are one node variable nothing is searched; the
+/// caller asks that once for all elements.
 pub(crate) fn key_row<G: GraphRead, L: Ledger>(
     alloc: Global,
     graph: &G,
     compiled: &Compiled,
     number: u32,
     key: &PlannedKey,
+    local: bool,
     elem: Elem,
+    learned: &mut Learned,
     steps: &mut Steps<L>,
 ) -> Result<KeyChange, Memory>
-    requires { is_valid_key_of compiled.now key.now ≡ true }
+    requires typed { is_valid_key_of compiled.now key.now ≡ true }
+    requires local { local ≡ true → IsLocal key.now }
+    requires learned { IsLearned compiled.now (G.meaning graph.now) key.now learned.old }
     ensures row { IfOk result (λ row. row ≡ change_of number (values_in_scope compiled.now (G.meaning graph.now) key.now) elem) }
+    ensures learned { IsLearned compiled.now (G.meaning graph.now) key.now learned.new }
     ensures no_step_back { steps.old ≤ steps.new }
     ensures cost { (most : ℕ) → IsSparse (G.meaning graph.now) (most_edges key.now) elem most →
         steps.new ≤ steps.old + 32 * (most + 2) ^ (most_edges key.now + 1) }
@@ -70,7 +82,7 @@ pub(crate) fn key_row<G: GraphRead, L: Ledger>(
         IfOk result (λ row. length (tuples_of row) ≤ (most + 2) ^ most_edges key.now) }
 {
     match elem {
-        Elem::Node(id) if is_local(key) => {
+        Elem::Node(id) if local => {
             let values = own_values(alloc, graph, compiled, key, id, steps)?;
             Ok(KeyChange {
                 key: number,
@@ -78,11 +90,12 @@ pub(crate) fn key_row<G: GraphRead, L: Ledger>(
                 values,
             })
         }
-        _ => searched_row(alloc, graph, compiled, number, key, elem, steps),
+        _ => searched_row(alloc, graph, compiled, number, key, elem, learned, steps),
     }
 }
 
-/// The rows of elements, in their order. Each element is asked once whether it is in the scope, and its key values are searched once.
+/// The rows of elements, in their order. Each element is asked once whether it is in the scope, and its key values are searched once; what
+/// the searches learn of other elements serves all rows.
 pub(crate) fn key_rows<G: GraphRead, L: Ledger>(
     alloc: Global,
     graph: &G,
@@ -101,9 +114,19 @@ pub(crate) fn key_rows<G: GraphRead, L: Ledger>(
     ensures few { (most : ℕ) → All (λ elem. IsSparse (G.meaning graph.now) (most_edges key.now) elem most) elems.now →
         IfOk result (λ rows. sum_by (λ row. length (tuples_of row)) rows.items ≤ length elems.now * (most + 2) ^ most_edges key.now) }
 {
+    let mut learned = Learned::new(alloc);
     let mut rows = Vec::with_capacity(alloc, elems.len())?;
     for elem in elems {
-        let row = key_row(alloc, graph, compiled, number, key, *elem, steps)?;
+        let row = searched_row(
+            alloc,
+            graph,
+            compiled,
+            number,
+            key,
+            *elem,
+            &mut learned,
+            steps,
+        )?;
         rows.push(row)?;
     }
     Ok(rows)

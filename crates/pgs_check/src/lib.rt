@@ -8,10 +8,12 @@
 //! `specs/Clashes.antt`.
 #![tactic(auto)]
 
+mod changed_rows;
 mod checking;
 mod clash;
 mod indexing;
 mod key_rows;
+mod local_rows;
 mod own_row;
 mod rule;
 mod sharing;

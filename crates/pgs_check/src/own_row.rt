@@ -61,8 +61,8 @@ fn own_tuple(
     Ok(Some(Tuple::new(List::from_vec(parts))))
 }
 
-// The key values of an element with this pair: at most one.
-fn own_tuples(
+/// The key values of an element with this pair: at most one.
+pub(crate) fn own_tuples(
     alloc: Global,
     compiled: &Compiled,
     key: &PlannedKey,

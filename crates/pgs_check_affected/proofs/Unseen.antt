@@ -206,12 +206,12 @@ module _ (resolved : Resolved) (g h : Graph) (touched seen : Elem → Bool) (agr
 
 -- ---- what the rows of an element tell
 
-one_outcome : (a b : Bool) → is_one_outcome a b ≡ true → a ≡ b
+pub one_outcome : (a b : Bool) → is_one_outcome a b ≡ true → a ≡ b
 one_outcome true b h = sym h
 one_outcome false true h = absurd (true≢false (sym h))
 one_outcome false false h = refl
 
-one_value : (a b : Option Value) → is_one_value a b ≡ true → a ≡ b
+pub one_value : (a b : Option Value) → is_one_value a b ≡ true → a ≡ b
 one_value None None h = refl
 one_value None (Some b) h = absurd (true≢false (sym h))
 one_value (Some a) None h = absurd (true≢false (sym h))
@@ -292,7 +292,7 @@ module _ (resolved : Resolved) (g h : Graph) (key : Key) (elem : Elem) (left : i
 
 -- ---- the elements of a change
 
-kept_one : (keep : Elem → Bool) (xs : List Elem) (x : Elem) → is_one_of xs x ≡ true → is_one_of (filter keep xs) x ≡ false → keep x ≡ false
+pub kept_one : (keep : Elem → Bool) (xs : List Elem) (x : Elem) → is_one_of xs x ≡ true → is_one_of (filter keep xs) x ≡ false → keep x ≡ false
 kept_one keep xs x own none =
     false_from_ne_true _ (λ kept. both_ways _ none
     (any_filter (same_elem x) keep xs ∙ any_of (λ y. keep y && same_elem x y) x xs own (both kept)))

@@ -11,7 +11,7 @@ ghost use Rattle.pgs_graph.specs.Reads.{edge_row};
 ghost use Rattle.pgs_syntax.specs.Matches.{carried};
 ghost use Rattle.pgs_syntax.specs.Valid.{is_valid_key_of};
 ghost use Rattle.pgs_match.specs.Planned.{most_edges};
-ghost use Rattle.pgs_check_affected.specs.Changes.{elems_of, have_same_ends, known_in};
+ghost use Rattle.pgs_check_affected.specs.Changes.{elems_of, have_same_ends, known_in, IsChange};
 ghost use Rattle.pgs_check_affected.specs.Local.{is_one_of, HasOneRow, IsAlike};
 ghost use Rattle.pgs_check_affected.specs.Touched.{touched, AreSparse, IsSparseInBoth, AreSparseInBoth};
 ghost use Rattle.pgs_check_affected.specs.Unseen.{seen_elems};
@@ -201,6 +201,13 @@ impl<'a> Change<'a> {
             after,
             known: List::from_vec(known),
         })
+    }
+
+    /// The elements of the change, ascending and each once, with their rows in both graphs. Every other element has one row in both.
+    pub fn known(&self) -> &[Known<'a>]
+        ensures { IsChange self.now.before self.now.after self.now.elems result.now }
+    {
+        self.known.as_slice()
     }
 
     /// Whether the change can alter a place in a key's scope, or the key values of an element there. Where it can't, each element is

@@ -1,15 +1,13 @@
 //! Whether a key can see an element change, as far as the element's own rows tell. No test takes a look-up or memory.
 
 ghost use Rattle.std.specs.Prelude.{◌≡◌, true, length};
-ghost use Rattle.std.specs.Option.{option_copied};
 ghost use Rattle.std.specs.List.{list_any, list_all};
 ghost use Rattle.pgs_syntax.specs.Valid.{is_valid_key_of};
 ghost use Rattle.pgs_match.specs.Planned.{pattern_of};
-ghost use Rattle.pgs_check_affected.specs.Unseen.{row_passes, is_one_outcome, passes_alike, is_one_value, value_of, gives_alike, asks_some_type, key_asks_edge_types, look_same, is_left_unseen};
+ghost use Rattle.pgs_check_affected.specs.Unseen.{row_passes, is_one_outcome, passes_alike, gives_alike, asks_some_type, key_asks_edge_types, look_same, is_left_unseen};
 
 use crate::Known;
 use crate::gathering::Sought;
-use pgs_base::{Name, Value};
 use pgs_conform::{Compiled, Pair};
 use pgs_kinds::looks_same;
 use pgs_match::{PlannedKey, Side};
@@ -56,7 +54,7 @@ impl<'a> Sought<'a> {
         };
         let passes = self.passes(*var, known.elem, &known.before)
             || self.passes(*var, known.elem, &known.after);
-        !passes || is_one_value(value_of(&known.before, key), value_of(&known.after, key))
+        !passes || known.keeps_value(key)
     }
 
     // Whether they give all expressions so.
@@ -70,27 +68,6 @@ impl<'a> Sought<'a> {
             }
         }
         true
-    }
-}
-
-// The value at a key, where there is a row and it has the key.
-fn value_of<'a>(own: &Option<Pair<'a>>, key: &Name) -> Option<&'a Value>
-    ensures { option_copied result ≡ value_of key.now own.now }
-{
-    match own {
-        Some(own) => own.props.get(key),
-        None => None,
-    }
-}
-
-// Whether a property is one in both rows, or absent from both.
-fn is_one_value(value: Option<&Value>, other: Option<&Value>) -> bool
-    ensures { result ≡ is_one_value (option_copied value.entry) (option_copied other.entry) }
-{
-    match (value, other) {
-        (Some(value), Some(other)) => value.cmp(other).is_eq(),
-        (None, None) => true,
-        _ => false,
     }
 }
 

@@ -14,10 +14,11 @@ loop-elem-preserved g c =
     record {
       so_far = map_next (change_of c.args.number (values_in_scope c.args.compiled.now graph c.args.key.now)) c.args.elems.now i _ c.loop-elem-test.true
           c.loop-elem.rows.items c.push.new.self.items c.in_ok-row.row c.in_ok-push.ensures.items c.in_ok-row.ensures.row c.loop-elem.invariant.so_far;
+      learned = c.searched_row.ensures.learned;
       no_step_back = omega arith;
       cost = λ most each.
-          rate_more (32 * (most + 2) ^ (most_edges c.args.key.now + 1)) i c.args.steps.now c.loop-elem.steps c.key_row.new.steps (c.loop-elem.invariant.cost most each)
-          (c.key_row.ensures.cost most (each i _ c.loop-elem-test.true));
+          rate_more (32 * (most + 2) ^ (most_edges c.args.key.now + 1)) i c.args.steps.now c.loop-elem.steps c.searched_row.new.steps (c.loop-elem.invariant.cost most each)
+          (c.searched_row.ensures.cost most (each i _ c.loop-elem-test.true));
       few = λ most each.
           rate_from ((most + 2) ^ most_edges c.args.key.now) i (λ row. length (tuples_of row)) c.loop-elem.rows.items c.push.new.self.items c.in_ok-row.row
           c.in_ok-push.ensures.items (c.loop-elem.invariant.few most each) (c.in_ok-row.ensures.few most (each i _ c.loop-elem-test.true));
@@ -37,12 +38,12 @@ pub returns-in_err-row-clause-cost : goal.returns-in_err-row-clause-cost
 returns-in_err-row-clause-cost g c = λ most each.
     let i = c.loop-elem.elem-index in
     let rate = 32 * (most + 2) ^ (most_edges c.args.key.now + 1) in
-    rate_all rate c.args.elems.now (i + 1) (omega arith) c.args.steps.now c.key_row.new.steps
-    (rate_more rate i c.args.steps.now c.loop-elem.steps c.key_row.new.steps (c.loop-elem.invariant.cost most each) (c.key_row.ensures.cost most (each i _ c.loop-elem-test.true)))
+    rate_all rate c.args.elems.now (i + 1) (omega arith) c.args.steps.now c.searched_row.new.steps
+    (rate_more rate i c.args.steps.now c.loop-elem.steps c.searched_row.new.steps (c.loop-elem.invariant.cost most each) (c.searched_row.ensures.cost most (each i _ c.loop-elem-test.true)))
 
 pub returns-in_err-push-clause-cost : goal.returns-in_err-push-clause-cost
 returns-in_err-push-clause-cost g c = λ most each.
     let i = c.loop-elem.elem-index in
     let rate = 32 * (most + 2) ^ (most_edges c.args.key.now + 1) in
-    rate_all rate c.args.elems.now (i + 1) (omega arith) c.args.steps.now c.key_row.new.steps
-    (rate_more rate i c.args.steps.now c.loop-elem.steps c.key_row.new.steps (c.loop-elem.invariant.cost most each) (c.key_row.ensures.cost most (each i _ c.loop-elem-test.true)))
+    rate_all rate c.args.elems.now (i + 1) (omega arith) c.args.steps.now c.searched_row.new.steps
+    (rate_more rate i c.args.steps.now c.loop-elem.steps c.searched_row.new.steps (c.loop-elem.invariant.cost most each) (c.searched_row.ensures.cost most (each i _ c.loop-elem-test.true)))
