@@ -13,6 +13,7 @@ use Rattle.pgs_syntax.proofs.InOrder.{scope_ascends}
 use Rattle.pgs_violation.specs.Violations.{mandatory_violation, singleton_violation, sharing, exclusive_violation, count_violation, where_asked, where_bounded, key_violations}
 use Rattle.pgs_scratch.specs.declared.key_row.KeyRow.{KeyRow}
 use Rattle.pgs_scratch.specs.Rows.{row_of, missing_value, several_values, shared_value, shared_values, count_of_row, rows_violations}
+use Rattle.pgs_scratch.specs.Judged.{indexed_row, scope_row, scope_rows}
 use Rattle.pgs_scratch.proofs.Ordered.{later_are_after}
 
 -- what four equal parts make is equal
@@ -55,6 +56,10 @@ module _ (number : ℕ) (values : Elem → List (List Part)) where
   bounded_same None elems = refl
   bounded_same (Some bounds) elems = counts_same bounds elems
 
+  indexed_same : (elems : List Elem) → map (indexed_row number) (map (row_of values) elems) ≡ map (scope_row number values) elems
+  indexed_same [] = refl
+  indexed_same (elem ∷ elems) = ap (λ rows. scope_row number values elem ∷ rows) (indexed_same elems)
+
 module _ (resolved : Resolved) (g : Graph) (graph : is_graph g ≡ true) (number : ℕ) (key : Key) where
   abbrev pub rows_of : List KeyRow
   rows_of = map (row_of (key_values resolved g key)) (scope_of resolved g key)
@@ -75,3 +80,7 @@ module _ (resolved : Resolved) (g : Graph) (graph : is_graph g ≡ true) (number
       ap₄ (λ missing several shared counted. where_asked key.qualifiers.mandatory missing ++ where_asked key.qualifiers.singleton several
       ++ where_asked key.qualifiers.exclusive shared ++ counted) (missing_same number values scope) (several_same number values scope)
       (shared_same number values [] scope (scope_ascends g graph resolved key)) (bounded_same number values key.qualifiers.count scope)
+
+  -- as rows of an index they are those of the scope
+  pub indexed_are_scope : (rows : List KeyRow) → rows ≡ rows_of → map (indexed_row number) rows ≡ scope_rows resolved g number key
+  indexed_are_scope rows is = ap (map (indexed_row number)) is ∙ indexed_same number (key_values resolved g key) (scope_of resolved g key)

@@ -1,4 +1,5 @@
 pub mod Confirmed
+pub mod Judged
 pub mod Marks
 pub mod Owners
 pub mod Rows

@@ -5,6 +5,7 @@ ghost use Rattle.std.specs.Option.{option_copied};
 ghost use Rattle.pgs_base.specs.Graph.{element_count};
 ghost use Rattle.pgs_syntax.specs.KeyValues.{scope_of, key_values};
 ghost use Rattle.pgs_syntax.specs.Valid.{is_valid_key_of};
+ghost use Rattle.pgs_match.specs.Learned.{IsLearned};
 ghost use Rattle.pgs_match.specs.Near.{HasDegreesWithin};
 ghost use Rattle.pgs_match.specs.Planned.{HaveEdgesWithin, most_edges};
 ghost use Rattle.pgs_violation.specs.Standing.{key_of};
@@ -19,7 +20,7 @@ use crate::untyped::{untyped_edge, untyped_node};
 use pgs_base::{Copyable, Elem, List, Memory, Steps, Tuple, TupleSet};
 use pgs_conform::Compiled;
 use pgs_graph::GraphRead;
-use pgs_match::{PlannedKey, each_x};
+use pgs_match::{Learned, PlannedKey, each_x};
 use pgs_violation::Violation;
 use std::alloc::Global;
 use std::sync::ledger::Ledger;
@@ -108,18 +109,21 @@ impl<'a, G: GraphRead> KeySearch<'a, G> {
         &self,
         row: &KeyRow,
         other: Elem,
+        learned: &mut Learned,
         steps: &mut Steps<L>,
     ) -> Result<Option<Violation>, Memory>
         requires typed { is_valid_key_of self.now.compiled.now self.now.key.now ≡ true }
+        requires learned { IsLearned self.now.compiled.now (G.meaning self.now.graph.now) self.now.key.now learned.old }
         requires values { row.now.tuples ≡ key_values self.now.compiled.now (G.meaning self.now.graph.now) self.now.key.now row.now.elem }
         ensures found { IfOk result (λ found.
             found ≡ sharing_if_later self.now.number (key_values self.now.compiled.now (G.meaning self.now.graph.now) self.now.key.now) row.now.elem other) }
+        ensures learned { IsLearned self.now.compiled.now (G.meaning self.now.graph.now) self.now.key.now learned.new }
         ensures no_step_back { steps.old ≤ steps.new }
         ensures cost { (most : ℕ) → HasDegreesWithin (G.meaning self.now.graph.now) most →
             steps.new ≤ steps.old + 16 * (most + 2) ^ (most_edges self.now.key.now + 1) }
     {
         if row.elem < other {
-            let later = self.row(other, steps)?;
+            let later = self.row_learned(other, learned, steps)?;
             shared_value(self.alloc, self.number, row, &later)
         } else {
             Ok(None)
@@ -143,8 +147,9 @@ impl<'a, G: GraphRead> KeySearch<'a, G> {
     {
         let scope = each_x(self.alloc, self.graph, self.compiled, self.key, steps)?;
         let elems = scope.as_slice();
+        let mut learned = self.nothing_learned();
         for other in elems {
-            let found = self.sharing_if_later(row, *other, steps)?;
+            let found = self.sharing_if_later(row, *other, &mut learned, steps)?;
             if let Some(found) = found {
                 return Ok(Some(found));
             }

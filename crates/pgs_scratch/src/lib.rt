@@ -7,6 +7,7 @@
 
 mod confirming;
 mod finding;
+mod judging;
 mod key_row;
 mod key_search;
 mod listing;
@@ -16,4 +17,5 @@ mod row_violations;
 mod untyped;
 
 pub use confirming::confirms;
+pub use judging::{Judged, judge};
 pub use listing::violations;

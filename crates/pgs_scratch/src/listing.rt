@@ -1,11 +1,14 @@
 //! The whole list of a graph's violations.
 
-ghost use Rattle.std.specs.Prelude.{◌≡◌, ◌++◌, ◌≤◌, true, IfOk, OnOk};
+ghost use Rattle.std.specs.Prelude.{◌≡◌, ◌++◌, ◌≤◌, true, map, IfOk, OnOk};
 ghost use Rattle.pgs_base.specs.Graph.{is_graph};
+ghost use Rattle.pgs_syntax.specs.KeyValues.{scope_of, key_values};
 ghost use Rattle.pgs_syntax.specs.Valid.{is_valid_key_of};
 ghost use Rattle.pgs_violation.specs.Violations.{violations, key_violations, keys_violations};
+ghost use Rattle.pgs_scratch.specs.Rows.{row_of};
 ghost use Rattle.pgs_scratch.specs.Untyped.{untyped_violations};
 
+use crate::key_row::KeyRow;
 use crate::key_search::KeySearch;
 use crate::row_violations::add_rows_violations;
 use crate::untyped::{add_untyped_edges, add_untyped_nodes};
@@ -17,8 +20,8 @@ use pgs_violation::Violation;
 use std::alloc::Global;
 use std::sync::ledger::Ledger;
 
-// Adds 25 and 26, where the guard is strict.
-fn add_untyped<G: GraphRead, L: Ledger>(
+/// Adds 25 and 26, where the guard is strict.
+pub(crate) fn add_untyped<G: GraphRead, L: Ledger>(
     alloc: Global,
     graph: &G,
     compiled: &Compiled,
@@ -38,21 +41,25 @@ fn add_untyped<G: GraphRead, L: Ledger>(
 }
 
 impl<'a, G: GraphRead> KeySearch<'a, G> {
-    // Adds the violations of the key.
-    fn add_violations<L: Ledger>(
+    /// Adds the violations of the key, and gives the rows of its scope.
+    pub(crate) fn add_violations<L: Ledger>(
         &self,
         found: &mut Vec<Violation>,
         steps: &mut Steps<L>,
-    ) -> Result<(), Memory>
+    ) -> Result<Vec<KeyRow>, Memory>
         requires typed { is_valid_key_of self.now.compiled.now self.now.key.now ≡ true }
         requires graph { is_graph (G.meaning self.now.graph.now) ≡ true }
         ensures key { OnOk result (found.new.items
             ≡ found.old.items ++ key_violations self.now.compiled.now (G.meaning self.now.graph.now) self.now.number self.now.key.now) }
+        ensures rows { IfOk result (λ rows. rows.items
+            ≡ map (row_of (key_values self.now.compiled.now (G.meaning self.now.graph.now) self.now.key.now))
+            (scope_of self.now.compiled.now (G.meaning self.now.graph.now) self.now.key.now)) }
         ensures no_step_back { steps.old ≤ steps.new }
     {
         let rows = self.rows(steps)?;
         let asked = self.key.key().qualifiers;
-        add_rows_violations(self.alloc, found, asked, self.number, rows.as_slice())
+        add_rows_violations(self.alloc, found, asked, self.number, rows.as_slice())?;
+        Ok(rows)
     }
 }
 
@@ -80,7 +87,7 @@ fn add_keys_violations<G: GraphRead, L: Ledger>(
             number: place as u32 + 1,
             key,
         };
-        search.add_violations(found, steps)?;
+        let _rows = search.add_violations(found, steps)?;
     }
     Ok(())
 }

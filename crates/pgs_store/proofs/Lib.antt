@@ -7,6 +7,7 @@ pub mod Evolved
 pub mod Exits
 pub mod Fitting
 pub mod Indexed
+pub mod Judged
 pub mod Loaded
 pub mod Opened
 pub mod Renewed

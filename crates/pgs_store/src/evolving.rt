@@ -12,14 +12,14 @@ ghost use Rattle.pgs_store.specs.World.{StaysBeside, CountsFault};
 ghost use Rattle.pgs_world.specs.Moment.{EachSince};
 
 use crate::fault::SchemaRefusal;
-use crate::judging::first_violation;
+use crate::judging::index_of_rows;
 use crate::loading::schema_frame;
 use crate::{EvolveFault, Guard, Store};
 use pgs_base::Steps;
-use pgs_check::index_of;
 use pgs_journal::Journal;
 use pgs_keyindex::KeyIndex;
 use pgs_schema::{Schema, SchemaUnread};
+use pgs_scratch::{Judged, judge};
 use pgs_world::World;
 use std::marker::Brand;
 use std::sync::ledger::{Blank, Ledger};
@@ -63,18 +63,14 @@ pub(crate) fn renewal_of<L: Ledger>(
 {
     guard.facts();
     let _text = schema.text();
-    if let Some(violation) = first_violation(guard.alloc, &guard.graph, &schema, steps)? {
-        return Err(SchemaRefusal::Violated(violation));
+    let compiled = schema.compiled();
+    match judge(guard.alloc, &guard.graph, compiled, schema.keys(), steps)? {
+        Judged::Conforming(rows) => {
+            let index = index_of_rows(guard.alloc, &guard.graph, compiled, guard.seed, rows)?;
+            Ok(Renewal { schema, index })
+        }
+        Judged::Violated(violation) => Err(SchemaRefusal::Violated(violation)),
     }
-    let index = index_of(
-        guard.alloc,
-        &guard.graph,
-        schema.compiled(),
-        schema.keys(),
-        guard.seed,
-        steps,
-    )?;
-    Ok(Renewal { schema, index })
 }
 
 impl Guard {

@@ -1,6 +1,6 @@
-//! How a transaction is decided where its change is, and how the graph of a snapshot is judged from scratch.
+//! How a transaction is decided where its change is, and how a graph is judged from scratch, with its index.
 
-ghost use Rattle.std.specs.Prelude.{◌≡◌, ◌≤◌, true, slice_get, Ok, IsTrue, IfOk, IfErr, OnOk};
+ghost use Rattle.std.specs.Prelude.{◌≡◌, ◌≤◌, true, Ok, IsTrue, IfOk, IfErr, OnOk};
 ghost use Rattle.pgs_base.specs.Graph.{element_count};
 ghost use Rattle.pgs_check.specs.Standing.{ChangeEachOnce, index_changed};
 ghost use Rattle.pgs_codec.specs.declared.command.Command.TheVariants.{Txn as Transaction};
@@ -9,22 +9,23 @@ ghost use Rattle.pgs_decide.specs.Refused.{IsRejected};
 ghost use Rattle.pgs_graph.specs.Changed.{changed, is_sound};
 ghost use Rattle.pgs_keyindex.specs.Rows.{IsOwned, rows_changed};
 ghost use Rattle.pgs_keyindex.specs.Standing.{StandsFor};
+ghost use Rattle.pgs_scratch.specs.Judged.{keys_rows};
 ghost use Rattle.pgs_violation.specs.Decision.{conforming, decide, judged};
 ghost use Rattle.pgs_violation.specs.declared.violation.Verdict.TheVariants.{Conforms};
 ghost use Rattle.pgs_violation.specs.Violations.{verdict};
 ghost use Rattle.pgs_store.specs.Costs.{TakesWithin};
-ghost use Rattle.pgs_store.specs.Refused.{verdict_by};
 ghost use Rattle.pgs_store.specs.State.{IsGuarded, IsIndexed};
 
 use crate::GuardRefusal;
-use pgs_base::{Limits, List, Memory, Steps};
+use pgs_base::{Limits, List, Memory, Seed, Steps};
+use pgs_conform::Compiled;
 use pgs_decide::{Decided, decide};
 use pgs_graph::{GraphRead, Txn};
-use pgs_keyindex::KeyIndex;
+use pgs_keyindex::{KeyChange, KeyIndex};
 use pgs_schema::Schema;
-use pgs_scratch::violations;
+use pgs_scratch::{Judged, judge};
 use pgs_tables::Tables;
-use pgs_violation::{Rejection, Structural, Violation};
+use pgs_violation::{Rejection, Structural};
 use std::alloc::Global;
 use std::sync::ledger::Ledger;
 
@@ -67,54 +68,65 @@ pub(crate) fn decision_of<L: Ledger>(
     )
 }
 
-// The first of a list of violations.
-fn first(found: List<Violation>) -> Option<Violation>
-    ensures { result ≡ slice_get found 0 }
+/// The index that stands for a graph that conforms, made of the rows of the scopes of all keys, which are all put in by one change. It is
+/// hashed by a seed. `Memory` where none was left.
+pub(crate) fn index_of_rows<G: GraphRead>(
+    alloc: Global,
+    graph: &G,
+    compiled: &Compiled,
+    seed: Seed,
+    rows: List<KeyChange>,
+) -> Result<KeyIndex, Memory>
+    requires conforms { verdict compiled.now (G.meaning graph.now) ≡ Conforms }
+    requires rows { rows ≡ keys_rows compiled.now (G.meaning graph.now) 1 compiled.now.guard.keys }
+    ensures stands { IfOk result (StandsFor compiled.now (G.meaning graph.now) compiled.now.guard.keys) }
+    ensures seed { IfOk result (λ index. index.seed ≡ seed) }
 {
-    found.into_vec().into_iter().next()
+    // The count's clause says that what is read is a graph.
+    let _count = graph.count();
+    let mut index = KeyIndex::with_seed(alloc, &compiled.resolved().guard.keys, seed)?;
+    // The rows of an index ascend.
+    index.facts();
+    let ready = index.prepare(rows)?;
+    index.commit(ready);
+    Ok(index)
 }
 
-/// The first violation of a graph under a schema, judged from scratch.
-pub(crate) fn first_violation<G: GraphRead, L: Ledger>(
+// Judges a graph from scratch, by its first violation. The rows that were judged make the index that stands for it.
+fn index_of_graph<G: GraphRead, L: Ledger>(
     alloc: Global,
     graph: &G,
     schema: &Schema,
+    seed: Seed,
     steps: &mut Steps<L>,
-) -> Result<Option<Violation>, Memory>
-    ensures verdict { IfOk result (λ found. verdict schema.now.resolved (G.meaning graph.now) ≡ verdict_by found) }
-    ensures no_step_back { steps.old ≤ steps.new }
-{
-    let found = violations(alloc, graph, schema.compiled(), schema.keys(), steps)?;
-    Ok(first(found))
-}
-
-// Judges a graph from scratch, by its first violation.
-fn judge_graph<G: GraphRead, L: Ledger>(
-    alloc: Global,
-    graph: &G,
-    schema: &Schema,
-    steps: &mut Steps<L>,
-) -> Result<(), GuardRefusal>
+) -> Result<KeyIndex, GuardRefusal>
     ensures conforms { OnOk result (verdict schema.now.resolved (G.meaning graph.now) ≡ Conforms) }
+    ensures stands { IfOk result (StandsFor schema.now.resolved (G.meaning graph.now) schema.now.resolved.guard.keys) }
+    ensures seed { IfOk result (λ index. index.seed ≡ seed) }
     ensures rejected { IfErr result (IsRejected (conforming (G.meaning graph.now) (verdict schema.now.resolved (G.meaning graph.now)))) }
     ensures no_step_back { steps.old ≤ steps.new }
 {
-    match first_violation(alloc, graph, schema, steps)? {
-        None => Ok(()),
-        Some(violation) => Err(GuardRefusal::Rejected(Rejection::Violation(violation))),
+    let compiled = schema.compiled();
+    match judge(alloc, graph, compiled, schema.keys(), steps)? {
+        Judged::Conforming(rows) => Ok(index_of_rows(alloc, graph, compiled, seed, rows)?),
+        Judged::Violated(violation) => Err(GuardRefusal::Rejected(Rejection::Violation(violation))),
     }
 }
 
-/// Judges the graph of tables from scratch: whether it is within the limits, and then whether it conforms.
-pub(crate) fn judge_tables<L: Ledger>(
+/// Judges the graph of tables from scratch: whether it is within the limits, and then whether it conforms. A graph that is both gets the
+/// index that stands for it, hashed by a seed.
+pub(crate) fn index_of_tables<L: Ledger>(
     alloc: Global,
     graph: &Tables,
     schema: &Schema,
     limits: &Limits,
+    seed: Seed,
     steps: &mut Steps<L>,
-) -> Result<(), GuardRefusal>
+) -> Result<KeyIndex, GuardRefusal>
     ensures conforms { OnOk result (verdict schema.now.resolved graph.now.graph ≡ Conforms) }
     ensures within { OnOk result (element_count graph.now.graph ≤ limits.now.elements) }
+    ensures stands { IfOk result (StandsFor schema.now.resolved graph.now.graph schema.now.resolved.guard.keys) }
+    ensures seed { IfOk result (λ index. index.seed ≡ seed) }
     ensures accepted { OnOk result (judged limits.now (verdict schema.now.resolved) graph.now.graph ≡ Ok graph.now.graph) }
     ensures rejected { IfErr result (IsRejected (judged limits.now (verdict schema.now.resolved) graph.now.graph)) }
     ensures no_step_back { steps.old ≤ steps.new }
@@ -124,5 +136,5 @@ pub(crate) fn judge_tables<L: Ledger>(
         let structural = Structural::TooManyElements { count };
         return Err(GuardRefusal::Rejected(Rejection::Structural(structural)));
     }
-    judge_graph(alloc, graph, schema, steps)
+    index_of_graph(alloc, graph, schema, seed, steps)
 }

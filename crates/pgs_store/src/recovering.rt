@@ -1,4 +1,4 @@
-ghost use Rattle.std.specs.Prelude.{◌≡◌, ◌<◌, ◌≤◌, ℕ, Option, Some, true, false, Ok, drop, IsTrue, IfOk, IfErr, OnOk};
+ghost use Rattle.std.specs.Prelude.{◌≡◌, ◌<◌, ◌≤◌, ℕ, Option, Some, true, false, Ok, drop, IsTrue, IfOk, IfErr, IfSome, OnOk};
 ghost use Rattle.pgs_base.specs.Graph.{element_count, empty_graph, is_graph};
 ghost use Rattle.pgs_codec.specs.declared.command.Command.TheVariants.{Snapshot as SnapshotCommand};
 ghost use Rattle.pgs_codec.specs.Encodable.{is_sized, snapshot_graph};
@@ -19,10 +19,9 @@ ghost use Rattle.pgs_world.specs.Moment.{IsQuiet, MakesNoPut};
 
 use crate::evolving::renewal_of;
 use crate::fault::SchemaRefusal;
-use crate::judging::judge_tables;
+use crate::judging::index_of_tables;
 use crate::{Guard, GuardRefusal, RecoverFault, Store};
 use pgs_base::{Bytes, EdgeId, EdgeRow, Limits, List, Memory, NodeId, NodeRow, Seed, Steps};
-use pgs_check::index_of;
 use pgs_codec::{Command, decode};
 use pgs_journal::Journal;
 use pgs_keyindex::KeyIndex;
@@ -66,12 +65,11 @@ fn judged_tables<L: Ledger>(
     ensures rejected { IfErr result (IsRejected (judged guard.now.limits (verdict guard.now.schema) (snapshot_graph nodes edges))) }
 {
     let tables = tables_of(guard.alloc, guard.seed, nodes, edges)?;
-    judge_tables(guard.alloc, &tables, &guard.schema, &guard.limits, steps)?;
-    let index = index_of(
+    let index = index_of_tables(
         guard.alloc,
         &tables,
-        guard.schema.compiled(),
-        guard.schema.keys(),
+        &guard.schema,
+        &guard.limits,
         guard.seed,
         steps,
     )?;
@@ -179,27 +177,35 @@ fn take_command<L: Ledger>(
     }
 }
 
-// Does what the record of this number, behind the first, says.
+// The command of a payload, which is given up.
+fn command_in(alloc: Global, payload: Bytes) -> Result<Option<Command>, Memory>
+    ensures command { IfOk result (λ command. command ≡ decoded payload) }
+    ensures sized { IfOk result (λ command. IfSome command (λ command. IsTrue (is_sized command))) }
+{
+    decode(alloc, payload.as_slice())
+}
+
+// Does what the record of this number, behind the first, says. Its payload is given up before that.
 fn take_record<L: Ledger>(
     alloc: Global,
     guard: &mut Guard,
     number: u64,
-    payload: &[u8],
+    payload: Bytes,
     steps: &mut Steps<L>,
 ) -> Result<(), RecoverFault>
     requires { guard.old.commits < 18446744073709551615 }
-    ensures taken { OnOk result (after_record guard.old.limits (replayed_in guard.old) (decoded payload.now) ≡ Ok (replayed_in guard.new)) }
-    ensures untaken { IfErr result (IsUntaken number (after_record guard.old.limits (replayed_in guard.old) (decoded payload.now))) }
+    ensures taken { OnOk result (after_record guard.old.limits (replayed_in guard.old) (decoded payload) ≡ Ok (replayed_in guard.new)) }
+    ensures untaken { IfErr result (IsUntaken number (after_record guard.old.limits (replayed_in guard.old) (decoded payload))) }
     ensures limits { OnOk result (guard.new.limits ≡ guard.old.limits) }
     ensures seed { OnOk result (guard.new.seed ≡ guard.old.seed) }
 {
-    match decode(alloc, payload)? {
+    match command_in(alloc, payload)? {
         Some(command) => take_command(guard, number, command, steps),
         None => Ok(()),
     }
 }
 
-// Replays the records behind the first, in order. Each is given up when it has been replayed.
+// Replays the records behind the first, in order. The payload of each is given up when it is decoded.
 fn replay<L: Ledger>(
     alloc: Global,
     guard: &mut Guard,
@@ -219,7 +225,7 @@ fn replay<L: Ledger>(
     let mut number = 1;
     for payload in records {
         number += 1;
-        match take_record(alloc, guard, number, payload.as_slice(), steps) {
+        match take_record(alloc, guard, number, payload, steps) {
             Ok(()) => {}
             Err(fault) => return Err(fault),
         }
@@ -274,8 +280,8 @@ fn guard_of_records<L: Ledger>(
 impl Store {
     /// The store that is saved in both areas: the records of the chosen one are replayed, each transaction is decided again as by
     /// `apply`, the graph of a snapshot is judged from scratch, once, and under each later schema the graph so far. Both areas and the
-    /// output are what they were at every moment. The records are in memory when the replay begins, and each is given up when it has
-    /// been replayed.
+    /// output are what they were at every moment. The records are in memory when the replay begins, and the payload of each is given up
+    /// when it has been decoded.
     ///
     /// 30 `NoStore` exactly where no area is a store and none is foreign, 32 `Foreign` exactly where no area is a store and one is
     /// foreign, 33 `BadRecord` exactly where the chosen store is damaged at that record; else the first fault in the order of records:

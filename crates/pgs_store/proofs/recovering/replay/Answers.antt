@@ -1,4 +1,4 @@
-use Rattle.std.proofs.Common.{rules, ◌≡◌, ◌+◌, ◌∷◌, ℕ, List, Ok, drop, refl, sym, ◌∙◌, ap, arith}
+use Rattle.std.proofs.Common.{rules, ◌≡◌, ◌+◌, ◌∷◌, Ok, drop, refl, sym, ◌∙◌, ap, arith}
 use Rattle.pgs_base.specs.declared.limits.Limits.{Limits}
 use Rattle.pgs_codec.specs.Reading.{decoded}
 use Rattle.pgs_journal.specs.Format.{format_of}
@@ -31,7 +31,6 @@ loop-payload-preserved g c =
     let limits = c.loop-payload.invariant.limits in
     let taken : after_record first.limits (replayed_in guard) (decoded payload) ≡ Ok (replayed_in new) =
     ap (λ (l : Limits). after_record l (replayed_in guard) (decoded payload)) (sym limits)
-    ∙ ap (λ (p : List ℕ). after_record guard.limits (replayed_in guard) (decoded p)) (sym c.as_slice.ensures)
     ∙ c.in-Ok.ensures.taken in
     record {
       left = taken_rest c.args.payloads place payload rest left;

@@ -1,4 +1,4 @@
-use Rattle.std.proofs.Common.{◌≡◌, ◌++◌, OnOk, ap, subst, ◌∙◌}
+use Rattle.std.proofs.Common.{◌++◌, ap, ◌∙◌}
 use Rattle.pgs_syntax.specs.declared.key.Key.{Key}
 use Rattle.pgs_scratch.specs.Rows.{rows_violations}
 use Rattle.pgs_scratch.proofs.KeyRows.{rows_ascend, rows_are_scope}
@@ -11,8 +11,8 @@ add_rows_violations-requires g c =
 
 pub returns-clause-key : goal.returns-clause-key
 returns-clause-key g c =
-    subst (λ more. OnOk c.add_rows_violations.result (c.add_rows_violations.new.found.items ≡ c.args.found.now.items ++ more))
+    c.in_ok-add_rows_violations.ensures
+    ∙ ap (λ more. c.args.found.now.items ++ more)
     (ap (λ (key : Key). rows_violations key.qualifiers c.args.self.now.number c.as_slice.result.now) c.key.ensures
     ∙ ap (rows_violations c.args.self.now.key.now.qualifiers c.args.self.now.number) (c.as_slice.ensures.value ∙ c.in_ok-rows.ensures.rows)
     ∙ rows_are_scope c.args.self.now.compiled.now (g.G.GraphRead.meaning c.args.self.now.graph.now) c.requires.graph c.args.self.now.number c.args.self.now.key.now)
-    c.add_rows_violations.ensures

@@ -14,6 +14,7 @@ loop-other-preserved g c = record {
   none_so_far = found_next (sharing_if_later c.args.self.now.number (key_values c.args.self.now.compiled.now (g.G.GraphRead.meaning c.args.self.now.graph.now) c.args.self.now.key.now) c.args.row.now.elem)
       [] c.as_slice-elems.result.now c.loop-other.other-index _ c.loop-other-test.true [] [] None c.loop-other.invariant.none_so_far refl
       (sym c.in_default.is ∙ c.in_ok-found.ensures.found);
+  learned = c.sharing_if_later.ensures.learned;
   no_step_back = omega arith;
   cost = λ most within.
       let before = c.loop-other.invariant.cost most within in
