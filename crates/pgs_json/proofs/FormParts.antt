@@ -25,11 +25,11 @@ tail_true : (a b : Bool) → (a && b) ≡ true → b ≡ true
 tail_true true b h = h
 tail_true false b h = cc
 
-all_digits : (bs : List ℕ) → list_all is_digit bs ≡ true → AllDigits 10 bs
+pub all_digits : (bs : List ℕ) → list_all is_digit bs ≡ true → AllDigits 10 bs
 all_digits [] h = tt
 all_digits (b ∷ bs) h = (digit_small b (head_true _ _ h), all_digits bs (tail_true _ _ h))
 
-digits_in-all : (bs : List ℕ) → list_all is_digit bs ≡ true → digits_in bs ≡ bs
+pub digits_in-all : (bs : List ℕ) → list_all is_digit bs ≡ true → digits_in bs ≡ bs
 digits_in-all [] h = refl
 digits_in-all (b ∷ bs) h =
     take_while-cons is_digit b bs ∙ ap (λ (t : Bool). cond t (b ∷ digits_in bs) []) (head_true _ _ h) ∙ ap (λ ds. b ∷ ds) (digits_in-all bs (tail_true _ _ h))

@@ -10,5 +10,6 @@ mod WrittenRead
 mod Trees
 mod Reading
 mod FormParts
+mod Numerals
 mod FormLoops
 pub mod Commits

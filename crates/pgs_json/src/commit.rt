@@ -55,34 +55,45 @@ fn commit(alloc: Global, value: &Json<'_>) -> Result<(u64, Txn), Unread>
     Ok((number, Txn { ops }))
 }
 
-fn text_commit(alloc: Global, text: &str) -> Result<(u64, Txn), Unread>
+fn text_commit(alloc: Global, text: &str, scratch: &mut Scratch) -> Result<(u64, Txn), Unread>
     ensures { Gives (λ x. x) result (option_and_then commit_form (read text.now)) }
 {
-    let mut scratch = Scratch::new(alloc);
-    let value = Json::from_str(alloc, text, &mut scratch)?;
+    let value = Json::from_str(alloc, text, scratch)?;
     commit(alloc, &value)
 }
 
 /// The commit of a line of whatever length.
 #[tactic(auto, using(crate::proofs::Commits::line_text, crate::proofs::Commits::line_none))]
-fn line_commit(alloc: Global, line: &[u8]) -> Result<(u64, Txn), Unread>
+fn line_commit(alloc: Global, line: &[u8], scratch: &mut Scratch) -> Result<(u64, Txn), Unread>
     ensures { Gives (λ x. x) result (commit_of line.now) }
 {
     match str::from_utf8(line) {
-        Ok(text) => text_commit(alloc, text),
+        Ok(text) => text_commit(alloc, text, scratch),
         Err(_) => Err(Unread::Unfit),
     }
 }
 
-/// The commit of a line of a feed, given without its line feed: its number, from 1, and its transaction. `LineTooLong` exactly where
-/// it has over `COMMIT_LIMIT` bytes, else `Unreadable` exactly where it is no JSON text or its value isn't an object with the two members
-/// `commit`, an id of at least 1, and `ops`, as docs/FORMATS.md tells.
+/// The commit of a line as `read_commit` reads it, with what reading writes to lent.
 #[tactic(auto, unfolding(crate::specs::Commit::read_commit_line))]
-pub fn read_commit(alloc: Global, line: &[u8]) -> Result<(u64, Txn), CommitFault>
+pub fn read_commit_in(
+    alloc: Global,
+    line: &[u8],
+    scratch: &mut Scratch,
+) -> Result<(u64, Txn), CommitFault>
     ensures { ReadsCommit result line.now }
 {
     if line.len() > COMMIT_LIMIT {
         return Err(CommitFault::LineTooLong);
     }
-    Ok(line_commit(alloc, line)?)
+    Ok(line_commit(alloc, line, scratch)?)
+}
+
+/// The commit of a line of a feed, given without its line feed: its number, from 1, and its transaction. `LineTooLong` exactly where
+/// it has over `COMMIT_LIMIT` bytes, else `Unreadable` exactly where it is no JSON text or its value isn't an object with the two members
+/// `commit`, an id of at least 1, and `ops`, as docs/FORMATS.md tells. Many lines are read by a `LineReader`.
+pub fn read_commit(alloc: Global, line: &[u8]) -> Result<(u64, Txn), CommitFault>
+    ensures { ReadsCommit result line.now }
+{
+    let mut scratch = Scratch::new(alloc);
+    read_commit_in(alloc, line, &mut scratch)
 }

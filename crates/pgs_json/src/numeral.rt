@@ -1,9 +1,11 @@
 //! The number that a token of JSON writes.
 
-ghost use Rattle.std.specs.Prelude.{◌≡◌, ◌==◌, ◌<◌, length, slice_index, option_map, IsTrue, true, false};
+ghost use Rattle.std.specs.Prelude.{◌≡◌, ◌==◌, ◌<◌, length, slice_index, option_map, IfSome, IsTrue, Some, true, false};
+ghost use Rattle.serde_json.specs.Data.{unsigned};
 ghost use Rattle.serde_json.specs.Read.{number_of, number_from, float_of};
 ghost use Rattle.serde_json.specs.View.{number_view};
 
+use crate::number::digits;
 use fast_float::Numeral;
 use serde_json::Number;
 
@@ -38,14 +40,35 @@ fn negative(numeral: &Numeral<'_>) -> Option<Number>
     }
 }
 
+fn any_number(bytes: &[u8]) -> Option<Number>
+    ensures { option_map number_view result ≡ number_of bytes.now }
+{
+    if has_minus(bytes) {
+        negative(&Numeral::scan(&bytes[1..]))
+    } else {
+        unsigned(&Numeral::scan(bytes))
+    }
+}
+
+/// The number below 2^64 that digits alone write: most numbers of a line are such ones, and are read in one loop.
+fn whole_number(bytes: &[u8]) -> Option<u64>
+    ensures { IfSome result (λ number. number_of bytes.now ≡ Some (unsigned number)) }
+{
+    let (number, count) = digits(bytes)?;
+    if 0 < count && count == bytes.len() {
+        Some(number)
+    } else {
+        None
+    }
+}
+
 /// The number that a token writes. `None` exactly where a float can't be as large.
 pub fn number(text: &str) -> Option<Number>
     ensures { option_map number_view result ≡ number_of text.now }
 {
     let bytes = text.as_bytes();
-    if has_minus(bytes) {
-        negative(&Numeral::scan(&bytes[1..]))
-    } else {
-        unsigned(&Numeral::scan(bytes))
+    match whole_number(bytes) {
+        Some(number) => Some(Number::from(number)),
+        None => any_number(bytes),
     }
 }
