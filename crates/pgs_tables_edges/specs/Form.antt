@@ -2,13 +2,15 @@
 use Rattle.std.specs.Prelude.{List, ◌<◌, ◌≤◌, length}
 use Rattle.pgs_base.specs.declared.element.EdgeId.{EdgeId}
 use Rattle.pgs_tables_edges.specs.declared.ids.Form.{Form}
-use Rattle.pgs_tables_edges.specs.declared.ids.Form.TheVariants.{Few, Many}
+use Rattle.pgs_tables_edges.specs.declared.ids.Form.TheVariants.{Short, Few, Many}
 
 abbrev pub form_ids : Form → List EdgeId
+form_ids (Short ids) = ids
 form_ids (Few ids) = ids.items
 form_ids (Many long) = long
 
--- a block has up to 64 ids, a long list more
+-- a short list has up to three ids, a block more and up to 64, a long list more
 abbrev pub IsFitting : Form → Type 0
-IsFitting (Few ids) = length ids.items ≤ 64
+IsFitting (Short ids) = length ids ≤ 3
+IsFitting (Few ids) = (3 < length ids.items) × (length ids.items ≤ 64)
 IsFitting (Many long) = 64 < length long

@@ -40,12 +40,10 @@ impl Model for EdgeList {
 
 impl EdgeList {
     /// No numbers. It takes no memory.
-    pub fn new(alloc: Global) -> EdgeList
+    pub fn new(_alloc: Global) -> EdgeList
         ensures { result ≡ [] }
     {
-        EdgeList {
-            ids: Ids::new(alloc),
-        }
+        EdgeList { ids: Ids::new() }
     }
 
     /// The list of numbers that ascend strictly. `Memory` where none was left.
@@ -164,8 +162,7 @@ impl EdgeList {
 
 impl Copyable for EdgeList {
     fn copy(&self, alloc: Global) -> Result<EdgeList, Memory> {
-        let last = self.ids.len();
-        let ids = self.ids.spliced(alloc, (last, last), &[])?;
+        let ids = self.ids.copy(alloc)?;
         Ok(EdgeList { ids })
     }
 }

@@ -8,6 +8,7 @@ ghost use Rattle.pgs_base.specs.Places.{IsKeyAt, IsKeyGap};
 
 use crate::block::{search_block, spliced_block};
 use crate::edits::{chunks_of, with_each, without_each};
+use crate::short::{MOST, Short, short_of, spliced_short};
 use crate::{Chunks, Long};
 use pgs_base::{EdgeId, Memory};
 use std::alloc::Global;
@@ -16,14 +17,15 @@ use std::marker::Model;
 // Up to so many ids stand in one block, which is smaller than chunks and quick to copy.
 const FEW: usize = 64;
 
-/// Few ids in a block of their own, and many in a long list.
+/// At most three ids in the list itself, few in a block of their own, and many in a long list.
 #[derive(Drop)]
 enum Form {
+    Short(Short),
     Few(Vec<EdgeId>),
     Many(Long),
 }
 
-/// Any list of ids, of which up to FEW take one small block, and more a long list. Contracts see the list.
+/// Any list of ids, of which up to three take no memory, up to FEW one small block, and more a long list. Contracts see the list.
 #[derive(Drop)]
 pub struct Ids {
     form: Form,
@@ -43,11 +45,11 @@ impl Model for Ids {
 
 impl Ids {
     /// No ids. It takes no memory.
-    pub fn new(alloc: Global) -> Ids
+    pub fn new() -> Ids
         ensures { result ≡ [] }
     {
         Ids {
-            form: Form::Few(Vec::new(alloc)),
+            form: Form::Short(Short::new()),
         }
     }
 
@@ -55,7 +57,9 @@ impl Ids {
     pub fn from_slice(alloc: Global, ids: &[EdgeId]) -> Result<Ids, Memory>
         ensures { IfOk result (λ list. list ≡ ids.now) }
     {
-        let form = if ids.len() <= FEW {
+        let form = if ids.len() <= MOST {
+            Form::Short(short_of(ids))
+        } else if ids.len() <= FEW {
             Form::Few(Vec::from_slice(alloc, ids)?)
         } else {
             Form::Many(long_of(alloc, ids)?)
@@ -67,7 +71,9 @@ impl Ids {
     fn from_block(alloc: Global, block: Vec<EdgeId>) -> Result<Ids, Memory>
         ensures { IfOk result (λ list. list ≡ block.items) }
     {
-        let form = if block.len() <= FEW {
+        let form = if block.len() <= MOST {
+            Form::Short(short_of(block.as_slice()))
+        } else if block.len() <= FEW {
             Form::Few(block)
         } else {
             Form::Many(long_of(alloc, block.as_slice())?)
@@ -79,24 +85,27 @@ impl Ids {
     fn from_chunks(alloc: Global, chunks: Chunks) -> Result<Ids, Memory>
         ensures { IfOk result (λ list. list ≡ chunks) }
     {
-        let form = if chunks.len() <= FEW {
-            Form::Few(chunks.to_block(alloc)?)
-        } else {
-            Form::Many(Long::from_chunks(alloc, chunks)?)
-        };
-        Ok(Ids { form })
+        if chunks.len() <= FEW {
+            let block = chunks.to_block(alloc)?;
+            return Ids::from_block(alloc, block);
+        }
+        let long = Long::from_chunks(alloc, chunks)?;
+        Ok(Ids {
+            form: Form::Many(long),
+        })
     }
 
     // The list of a long list's ids.
     fn from_long(alloc: Global, long: Long) -> Result<Ids, Memory>
         ensures { IfOk result (λ list. list ≡ long) }
     {
-        let form = if long.len() <= FEW {
-            Form::Few(long.to_block(alloc)?)
-        } else {
-            Form::Many(long)
-        };
-        Ok(Ids { form })
+        if long.len() <= FEW {
+            let block = long.to_block(alloc)?;
+            return Ids::from_block(alloc, block);
+        }
+        Ok(Ids {
+            form: Form::Many(long),
+        })
     }
 
     /// How many ids there are.
@@ -104,6 +113,7 @@ impl Ids {
         ensures { result ≡ length self.now }
     {
         match &self.form {
+            Form::Short(ids) => ids.as_slice().len(),
             Form::Few(ids) => ids.len(),
             Form::Many(long) => long.len(),
         }
@@ -114,6 +124,7 @@ impl Ids {
         ensures { result ≡ slice_get self.now place }
     {
         match &self.form {
+            Form::Short(ids) => ids.as_slice().get(place).copied(),
             Form::Few(ids) => ids.as_slice().get(place).copied(),
             Form::Many(long) => long.at(place),
         }
@@ -127,6 +138,7 @@ impl Ids {
         ensures small { IfOk result (λ place. place + 1 < 2 ^ 64) }
     {
         match &self.form {
+            Form::Short(ids) => search_block(ids.as_slice(), id),
             Form::Few(ids) => search_block(ids.as_slice(), id),
             Form::Many(long) => long.search(id),
         }
@@ -137,6 +149,7 @@ impl Ids {
         ensures { IfOk result (λ chunks. chunks ≡ self.now) }
     {
         match &self.form {
+            Form::Short(ids) => chunks_of(alloc, ids.as_slice()),
             Form::Few(block) => chunks_of(alloc, block.as_slice()),
             Form::Many(long) => long.to_chunks(alloc),
         }
@@ -152,15 +165,26 @@ impl Ids {
         ensures { IfOk result (λ list. list ≡ take range.0 self.now ++ (ids.now ++ drop range.1 self.now)) }
     {
         match &self.form {
-            Form::Few(block) => {
-                let spliced = spliced_block(alloc, block.as_slice(), range, ids)?;
-                Ids::from_block(alloc, spliced)
-            }
+            Form::Short(block) => spliced_few(alloc, block.as_slice(), range, ids),
+            Form::Few(block) => spliced_few(alloc, block.as_slice(), range, ids),
             Form::Many(long) => {
                 let spliced = long.spliced(alloc, range, ids)?;
                 Ids::from_long(alloc, spliced)
             }
         }
+    }
+
+    /// An equal list. `Memory` where there was none left, and not for up to three ids.
+    pub fn copy(&self, alloc: Global) -> Result<Ids, Memory>
+        ensures { IfOk result (λ list. list ≡ self.now) }
+    {
+        if let Form::Short(short) = &self.form {
+            return Ok(Ids {
+                form: Form::Short(short.copy()),
+            });
+        }
+        let last = self.len();
+        self.spliced(alloc, (last, last), &[])
     }
 
     /// The list, which ascends, with ids put in that ascend. `Memory` where there was none left.
@@ -190,4 +214,22 @@ fn long_of(alloc: Global, ids: &[EdgeId]) -> Result<Long, Memory>
 {
     let chunks = chunks_of(alloc, ids)?;
     Long::from_chunks(alloc, chunks)
+}
+
+// The list of a few ids with others in the place of a range.
+fn spliced_few(
+    alloc: Global,
+    block: &[EdgeId],
+    range: (usize, usize),
+    ids: &[EdgeId],
+) -> Result<Ids, Memory>
+    ensures { IfOk result (λ list. list ≡ take range.0 block.now ++ (ids.now ++ drop range.1 block.now)) }
+{
+    if let Some(short) = spliced_short(block, range, ids) {
+        return Ok(Ids {
+            form: Form::Short(short),
+        });
+    }
+    let spliced = spliced_block(alloc, block, range, ids)?;
+    Ids::from_block(alloc, spliced)
 }
