@@ -2,6 +2,7 @@ pub mod Above
 pub mod Committed
 pub mod Ends
 pub mod Folded
+pub mod InPlace
 pub mod Relisted
 pub mod Touched
 pub mod Keys

@@ -9,9 +9,10 @@ ghost use Rattle.pgs_base.specs.declared.element.NodeId.{NodeId};
 ghost use Rattle.pgs_base.specs.Graph.{node_cmp};
 ghost use Rattle.pgs_graph.specs.Changed.{entry_changed, entries_changed};
 ghost use Rattle.pgs_tables.specs.Slots.{has_slot};
-ghost use Rattle.pgs_tables.specs.Commits.{edges_kept, row_put, rows_put, edges_put, lists_put};
+ghost use Rattle.pgs_tables.specs.Commits.{row_put, rows_put, edges_put, lists_put};
 
 use crate::node_edges::NodeTable;
+use crate::numbered::in_place::{change_row, relink};
 use crate::{NodeEdges, Number, Numbered};
 use pgs_base::{NodeId, NodeRow};
 use std::alloc::Global;
@@ -69,19 +70,7 @@ fn put_node(
     ensures numbers { nodes.new.numbers ≡ nodes.old.numbers }
     ensures seed { nodes.new.seed ≡ nodes.old.seed }
 {
-    let edges = edges_of(alloc, nodes.take(id));
-    if let Some(row) = row {
-        nodes.put(id, NodeTable { row, edges });
-    }
-}
-
-fn edges_of(alloc: Global, table: Option<NodeTable>) -> NodeEdges
-    ensures { result ≡ edges_kept table }
-{
-    match table {
-        Some(table) => table.edges,
-        None => NodeEdges::new(alloc),
-    }
+    change_row(nodes, alloc, id, row);
 }
 
 /// Puts in the lists of nodes, where they are there.
@@ -102,8 +91,5 @@ fn put_list(nodes: &mut Numbered<NodeId, NodeTable>, id: NodeId, edges: NodeEdge
     ensures numbers { nodes.new.numbers ≡ nodes.old.numbers }
     ensures seed { nodes.new.seed ≡ nodes.old.seed }
 {
-    if let Some(table) = nodes.take(id) {
-        let NodeTable { row, edges: _ } = table;
-        nodes.put(id, NodeTable { row, edges });
-    }
+    relink(nodes, id, edges);
 }

@@ -7,6 +7,8 @@ ghost use Rattle.std.specs.Map.{keys_of, lookup, remove_entry, set_value};
 ghost use Rattle.indexmap.specs.IndexMap.{hasher_of};
 ghost use Rattle.pgs_tables.specs.Slots.{has_row, has_slot, is_above, present, raised, row_count, with_number, AreKept, IsFoundAt};
 
+pub(crate) mod in_place;
+
 use crate::Number;
 use crate::places::Places;
 use indexmap::IndexMap;
