@@ -10,19 +10,18 @@ use Rattle.std.proofs.lemmas.List.Kept.{IsStrictlySortedBy-filter}
 use Rattle.std.proofs.lemmas.List.Sums.{sum_by-cons}
 use Rattle.pgs_base.specs.declared.element.Elem.{Elem}
 use Rattle.pgs_base.specs.declared.element.Elem.TheVariants.{Node, Edge}
-use Rattle.pgs_base.specs.declared.element.NodeId.{NodeId}
 use Rattle.pgs_base.specs.declared.part.Part.{Part}
 use Rattle.pgs_base.specs.declared.part.Part.TheVariants as parts
 use Rattle.pgs_base.specs.declared.row.NodeRow.{NodeRow}
 use Rattle.pgs_base.specs.Graph.{Graph, node_at}
-use Rattle.pgs_base.specs.Order.{ascends, elem_cmp}
+use Rattle.pgs_base.specs.Order.{elem_cmp}
 use Rattle.pgs_base.specs.Pair.{value_at}
 use Rattle.pgs_base.proofs.Ascending.{ascends_decides}
 use Rattle.pgs_syntax.specs.declared.key.Key.{Key}
 use Rattle.pgs_syntax.specs.declared.pattern.Expr.{Expr}
 use Rattle.pgs_syntax.specs.declared.pattern.Expr.TheVariants.{Element, Property}
 use Rattle.pgs_syntax.specs.declared.resolved.Resolved.{Resolved}
-use Rattle.pgs_syntax.specs.KeyValues.{is_in_scope, key_values}
+use Rattle.pgs_syntax.specs.KeyValues.{key_values}
 use Rattle.pgs_syntax.specs.Matches.{carried}
 use Rattle.pgs_syntax.specs.Valid.{is_edge_var, is_valid_key}
 use Rattle.pgs_match.specs.Tests.{own_passes, pair_meets}
@@ -31,8 +30,7 @@ use Rattle.pgs_keyindex.specs.declared.change.KeyChange.{KeyChange}
 use Rattle.pgs_keyindex.specs.Standing.{values_in_scope}
 use Rattle.pgs_check_affected.specs.declared.known.Known.{Known}
 use Rattle.pgs_check_affected.specs.Changes.{IsChange, known_in}
-use Rattle.pgs_check_affected.specs.Local.{is_one_of, AgreeBut}
-use Rattle.pgs_check_affected.specs.Touched.{touched}
+use Rattle.pgs_check_affected.specs.Local.{is_one_of}
 use Rattle.pgs_check_affected.specs.Unseen.{is_one_outcome, row_passes}
 use Rattle.pgs_check_affected.proofs.Loops.{front_more}
 use Rattle.pgs_check_affected.proofs.Locality.{carried_same}

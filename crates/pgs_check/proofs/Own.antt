@@ -24,11 +24,11 @@ use Rattle.pgs_syntax.specs.declared.pattern.Expr.TheVariants.{Element, Property
 use Rattle.pgs_syntax.specs.declared.pattern.Pattern.{Pattern}
 use Rattle.pgs_syntax.specs.declared.resolved.Resolved.{Resolved}
 use Rattle.pgs_syntax.specs.KeyValues.{is_in_scope, key_values}
-use Rattle.pgs_syntax.specs.Matches.{carried, matches}
+use Rattle.pgs_syntax.specs.Matches.{matches}
 use Rattle.pgs_syntax.specs.Valid.{is_edge_var, is_node_var, speaks_of, read_var, is_valid_pattern, is_valid_key}
 use Rattle.pgs_match.specs.declared.bindings.Bound.{Bound}
 use Rattle.pgs_match.specs.declared.bindings.Bound.TheVariants as bounds
-use Rattle.pgs_match.specs.Bounds.{elem_of, bound_at, with_bound, nothing_bound, stands_at}
+use Rattle.pgs_match.specs.Bounds.{with_bound, nothing_bound, stands_at}
 use Rattle.pgs_match.specs.Plans.{is_plan, covers, known_alone}
 use Rattle.pgs_match.specs.Search.{part_at, tuple_at, can_complete, gathered}
 use Rattle.pgs_match.specs.Tests.{agrees, node_passes, own_passes, admitted, admitted_node, admitted_edge}

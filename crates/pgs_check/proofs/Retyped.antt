@@ -1,6 +1,6 @@
 -- Nodes that look the same to types as before: they and the edges there are typed as they were, so the first 25 and 26 are found elsewhere.
-use Rattle.std.proofs.Common.{◌≡◌, ℕ, zero, suc, ◌+◌, ◌*◌, ◌<◌, ◌≤◌, Bool, true, false, ◌⊎◌, inl, inr, ⊎_elim, cond, List, [], ◌∷◌, ◌++◌, length, take, get_or, Option, Some, None, is_some, refl, sym, ◌∙◌, ap, subst, true≢false, append_assoc, arith, is_lt}
-use Rattle.std.specs.Prelude.{Contains, filter, filter_map, flat_map, map, not, option_map, option_and_then, if◌then◌else◌}
+use Rattle.std.proofs.Common.{◌≡◌, ℕ, ◌+◌, ◌*◌, ◌<◌, ◌≤◌, Bool, true, false, ◌⊎◌, inl, inr, ⊎_elim, cond, List, [], ◌∷◌, ◌++◌, length, take, get_or, Option, Some, None, is_some, refl, sym, ◌∙◌, ap, subst, true≢false, append_assoc, arith, is_lt}
+use Rattle.std.specs.Prelude.{Contains, filter, filter_map, flat_map, not, option_map, option_and_then, if◌then◌else◌}
 use Rattle.std.specs.BTreeMap.{is_at}
 use Rattle.std.specs.Option.{option_map_or}
 use Rattle.std.specs.Cmp.{Equal-is}
@@ -24,9 +24,8 @@ use Rattle.pgs_kinds.specs.Kinds.{looks_same}
 use Rattle.pgs_kinds.proofs.Compared.{one_plain, typed_node_same, typed_by_plain}
 use Rattle.pgs_kinds.proofs.Plain.{plain}
 use Rattle.pgs_syntax.specs.declared.resolved.Resolved.{Resolved}
-use Rattle.pgs_syntax.specs.Typed.{is_typed_triple, triple_at}
-use Rattle.pgs_syntax.proofs.Members.{contains_none, contains_cases, contains_first, contains_later, kept_given}
-use Rattle.pgs_violation.specs.declared.violation.Violation.{Violation}
+use Rattle.pgs_syntax.specs.Typed.{is_typed_triple}
+use Rattle.pgs_syntax.proofs.Members.{contains_none, contains_cases, contains_later, kept_given}
 use Rattle.pgs_violation.specs.declared.violation.Violation.TheVariants.{UntypedNode, UntypedEdge}
 use Rattle.pgs_violation.specs.Violations.{untyped_node, untyped_edge, where_asked}
 use Rattle.pgs_check.specs.Untyped.{untyped_violations, untyped_change, untyped_edge_at, is_untyped_edge, least_edge, edges_at, touched_edges, looks_as_before, retyped_nodes, IsTyped}
@@ -34,7 +33,7 @@ use Rattle.pgs_check.proofs.Firsts.{none_given}
 use Rattle.pgs_check.proofs.KeyFirst.{no_front}
 use Rattle.pgs_check.proofs.Least.{Below, all_below, least_passes}
 use Rattle.pgs_check.proofs.Shared.{not_less}
-use Rattle.pgs_check.proofs.Types.{there, some_and, same_node, edge_there, row_there, key_there, at_end, in_flat, edge_touched, no_edge_before, give_edge}
+use Rattle.pgs_check.proofs.Types.{there, some_and, same_node, edge_there, row_there, at_end, in_flat, edge_touched, no_edge_before, give_edge}
 
 -- ---- the nodes of changes that may be told from what they were
 

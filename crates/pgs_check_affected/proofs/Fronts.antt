@@ -1,9 +1,8 @@
 -- The elements of a change that a key may see, as a loop over all gathers them, against all.
 use Rattle.std.proofs.Common.{◌≡◌, ℕ, zero, suc, ◌+◌, ◌*◌, ◌<◌, ◌≤◌, Bool, true, false, ◌&&◌, not, cond, List, [], ◌∷◌, ◌++◌, map, filter, length, take, get_or, refl, sym, ◌∙◌, ap, arith}
-use Rattle.std.specs.List.{Contains}
 use Rattle.std.proofs.Math.Nat.{mul-le-mul_right}
 use Rattle.std.proofs.lemmas.Bool.{and_parts, and_from}
-use Rattle.std.proofs.lemmas.List.{get_or-map, length-append}
+use Rattle.std.proofs.lemmas.List.{get_or-map}
 use Rattle.pgs_base.specs.declared.element.Elem.{Elem}
 use Rattle.pgs_base.specs.Graph.{Graph}
 use Rattle.pgs_syntax.specs.declared.key.Key.{Key}
@@ -16,9 +15,8 @@ use Rattle.pgs_check_affected.specs.Found.{found_by, found}
 use Rattle.pgs_check_affected.specs.Local.{is_one_of}
 use Rattle.pgs_check_affected.specs.Touched.{AreSparseInBoth}
 use Rattle.pgs_check_affected.specs.Unseen.{is_left_unseen, seen_elems}
-use Rattle.pgs_check_affected.proofs.Finding.{contains_it, has_it, found_is}
 use Rattle.pgs_check_affected.proofs.Loops.{flat_append, flat_one, front_more}
-use Rattle.pgs_check_affected.proofs.Touching.{any_implied, any_of, itself, one_that}
+use Rattle.pgs_check_affected.proofs.Touching.{any_implied, any_of, itself}
 
 -- ---- what is kept of a list
 

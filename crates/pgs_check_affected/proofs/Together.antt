@@ -1,11 +1,11 @@
 -- What is spread from the elements of a change in a pattern: where it starts, that what is found is among it, and how much it is.
-use Rattle.std.proofs.Common.{◌≡◌, ◌⊎◌, inl, inr, ⊎_elim, ℕ, zero, suc, ◌+◌, ◌*◌, ◌^◌, ◌≤◌, ◌<◌, Bool, true, false, ◌&&◌, ◌||◌, ◌==◌, not, cond, List, [], ◌∷◌, ◌++◌, map, filter, flat_map, length, take, get_or, append-nil, append_assoc, add-one, Option, refl, sym, ◌∙◌, ap, subst, true≢false, arith}
+use Rattle.std.proofs.Common.{◌≡◌, inl, inr, ⊎_elim, ℕ, zero, suc, ◌+◌, ◌*◌, ◌^◌, ◌≤◌, ◌<◌, Bool, true, false, ◌&&◌, ◌==◌, not, cond, List, [], ◌∷◌, ◌++◌, map, filter, flat_map, length, take, get_or, append-nil, append_assoc, add-one, Option, refl, sym, ◌∙◌, ap, subst, true≢false, arith}
 use Rattle.std.specs.Prelude.{nat_lt}
 use Rattle.std.specs.Option.{option_map_or}
 use Rattle.std.specs.List.{list_any, list_all, All, Contains}
 use Rattle.std.specs.Cmp.{Equal-is}
 use Rattle.std.proofs.Math.Nat.{pow-succ', mul-le-mul_right}
-use Rattle.std.proofs.lemmas.Bool.{and_parts, and_from, or_cases, or_left, or_right, both_ways, cases_lt, eqb-true, eq-eqb, lt-ltb, true_from_ne_false}
+use Rattle.std.proofs.lemmas.Bool.{and_parts, and_from, or_cases, or_left, or_right, cases_lt, eqb-true, eq-eqb, lt-ltb, true_from_ne_false}
 use Rattle.std.proofs.lemmas.List.{length-append}
 use Rattle.std.proofs.lemmas.List.Elements.{All-contains, filter-append}
 use Rattle.std.proofs.lemmas.List.Folds.{list_any-append, list_all-append, Any-from_list_any, flat_map-map}
@@ -21,7 +21,6 @@ use Rattle.pgs_syntax.specs.Matches.{same_elem, carried}
 use Rattle.pgs_syntax.specs.Valid.{is_valid_pattern}
 use Rattle.pgs_syntax.proofs.Halves.{any_flat_map}
 use Rattle.pgs_match.specs.declared.stand.Stand.{Stand}
-use Rattle.pgs_match.specs.Near.{IsNearTo}
 use Rattle.pgs_match.specs.Reached.{reached}
 use Rattle.pgs_match.specs.Spread.{stand_at, IsNearSome, AreSparseFrom, are_in_range}
 use Rattle.pgs_match.specs.Tests.{own_passes}

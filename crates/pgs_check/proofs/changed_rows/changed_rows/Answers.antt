@@ -1,4 +1,4 @@
-use Rattle.std.proofs.Common.{length, arith}
+use Rattle.std.proofs.Common.{length}
 use Rattle.pgs_check_affected.specs.Touched.{touched}
 use Rattle.pgs_check_affected.proofs.Touching.{own_fewer}
 use Rattle.pgs_check.proofs.Costly.{local_owned}

@@ -1,10 +1,8 @@
-use Rattle.std.proofs.Common.{◌≡◌, ◌+◌, ◌*◌, ◌≤◌, map, filter, length, sym, ap, ◌∙◌, subst, arith}
+use Rattle.std.proofs.Common.{◌≡◌, ◌+◌, ◌*◌, ◌≤◌, map, filter, length}
 use Rattle.std.specs.List.{sum_by}
 use Rattle.std.proofs.lemmas.Bool.{and_parts}
-use Rattle.std.proofs.lemmas.List.{length-map}
 use Rattle.std.proofs.lemmas.Result.{IfOk-weaker}
 use Rattle.pgs_keyindex.specs.Standing.{values_in_scope}
-use Rattle.pgs_check_affected.specs.Changes.{known_in}
 use Rattle.pgs_check.specs.Clashes.{tuples_of}
 use Rattle.pgs_check.specs.Own.{is_altered, altered_to}
 use Rattle.pgs_check.specs.Standing.{AreRows}

@@ -1,4 +1,4 @@
-use Rattle.std.proofs.Common.{◌≡◌, ◌+◌, ◌*◌, ◌≤◌, None, length, ap, sym, subst, ◌∙◌, arith}
+use Rattle.std.proofs.Common.{◌+◌, ◌*◌, ◌≤◌, None, length, ap, sym, subst, ◌∙◌, arith}
 use Rattle.std.specs.Prelude.{flat_map}
 use Rattle.std.specs.Map.{keys_of}
 use Rattle.pgs_check.specs.Untyped.{is_untyped_edge, least_edge, edges_at, retyped_nodes, HaveDegreesWithin}

@@ -1,8 +1,5 @@
-use Rattle.std.proofs.Common.{◌≡◌, ◌+◌, ◌*◌, ◌^◌, ◌≤◌, ◌++◌, length, map, sym, ap, ◌∙◌, arith}
+use Rattle.std.proofs.Common.{◌+◌, ◌^◌, ◌++◌, ap, ◌∙◌}
 use Rattle.pgs_match.specs.Planned.{most_edges}
-use Rattle.pgs_check_affected.specs.declared.known.Known.{Known}
-use Rattle.pgs_check_affected.specs.Found.{IsFoundByAll}
-use Rattle.pgs_check_affected.specs.Unseen.{seen_elems}
 use Rattle.pgs_check_affected.proofs.Counting.{both_cost, first_cost, searched_cost}
 use Rattle.pgs_check_affected.proofs.spreads.found_by_all.Goals as goal
 

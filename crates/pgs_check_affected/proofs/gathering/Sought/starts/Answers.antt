@@ -1,4 +1,4 @@
-use Rattle.std.proofs.Common.{◌≡◌, ◌++◌, not, length, sym, ap, ◌∙◌}
+use Rattle.std.proofs.Common.{◌++◌, not, length, sym, ap, ◌∙◌}
 use Rattle.pgs_match.specs.Planned.{pattern_of}
 use Rattle.pgs_check_affected.specs.declared.known.Known.{Known}
 use Rattle.pgs_check_affected.specs.Found.{starts_of, row_in}
