@@ -22,7 +22,8 @@ use Rattle.pgs_command.proofs.Images.{area_of_images, images_none}
 use Rattle.pgs_run_input.specs.Answers.{schema_answer, schema_or_text}
 use Rattle.pgs_run_input.specs.Session.{standard}
 use Rattle.pgs_run_store.specs.Refusing.{SavedStore, store_refused, told_of_areas, told_saved, told_under}
-use Rattle.pgs_run_checkpoint.specs.Leaving.{IsStore, IsTorn, IsUnput, LeavesRenewed, PutsFront, StopsRenewing, saved_there}
+use Rattle.pgs_run_store.specs.Spec.{IsUnput}
+use Rattle.pgs_run_checkpoint.specs.Leaving.{IsStore, IsTorn, LeavesRenewed, PutsFront, StopsRenewing, saved_there}
 use Rattle.pgs_run_checkpoint.specs.Told.{told_by, told_checkpoint}
 
 -- ---- one line is told, and it isn't empty where a checkpoint was made
@@ -131,6 +132,3 @@ puts_memory old new same = record {
   torn = λ tells is accepted. let no : Memory ≡ PutFault = is in cc;
   unput = λ is. shows_same (shown_of old) (shown_of new) same;
 }
-
-pub renewed_none : (view : View) → IsTimed view → LeavesRenewed view view Memory
-renewed_none view timed = leaves_kept view view Memory (images_none view timed) (puts_memory view view refl) (λ settled store. stops_quiet view view (quiet_none view timed) settled)
