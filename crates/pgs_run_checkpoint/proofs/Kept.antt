@@ -11,14 +11,14 @@ use Rattle.pgs_snapshot.specs.Choice.{chosen_area, chosen_epoch}
 use Rattle.pgs_snapshot.specs.Saved.{SavedState, saved}
 use Rattle.pgs_snapshot.specs.Saved as states
 use Rattle.pgs_syntax.specs.declared.resolved.Resolved.{Resolved}
-use Rattle.pgs_world.specs.Moment.{EachSince, IsQuiet, IsSettled, IsTimed}
+use Rattle.pgs_world.specs.Moment.{EachSince, IsQuiet, IsSettled}
 use Rattle.pgs_world.specs.World.{Triple, View}
-use Rattle.pgs_world.proofs.Moments.{each_quiet, quiet_none}
+use Rattle.pgs_world.proofs.Moments.{each_quiet}
 use Rattle.pgs_command.specs.declared.status.Status.{Status}
 use Rattle.pgs_command.specs.declared.status.Status.TheVariants.{Accepted, Refused, BadWords, SchemaRefused, StoreRefused, DiskFault, ReadFault, PutFault, Memory, InputTooLong}
 use Rattle.pgs_command.specs.Areas.{Areas, areas_of}
 use Rattle.pgs_command.specs.Images.{KeepsImages}
-use Rattle.pgs_command.proofs.Images.{area_of_images, images_none}
+use Rattle.pgs_command.proofs.Images.{area_of_images}
 use Rattle.pgs_run_input.specs.Answers.{schema_answer, schema_or_text}
 use Rattle.pgs_run_input.specs.Session.{standard}
 use Rattle.pgs_run_store.specs.Refusing.{SavedStore, store_refused, told_of_areas, told_saved, told_under}
