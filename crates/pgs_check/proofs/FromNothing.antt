@@ -48,15 +48,6 @@ module _ (resolved : Resolved) where
       outside elem beside (Some tuples) is =
           absurd (true≢false (sym (there_listed (scope_of resolved h key) elem (row_found resolved h key elem tuples is).0) ∙ beside))
 
-  -- an element is in the scope exactly where it has key values there
-  pub some_in_scope : (h : Graph) (key : Key) (elems : List Elem) →
-      filter (λ elem. is_some (values_in_scope resolved h key elem)) elems ≡ filter (is_in_scope resolved h key) elems
-  some_in_scope h key elems = ap (λ (p : Elem → Bool). filter p elems) (λ i elem. same elem (is_in_scope resolved h key elem) i)
-    where
-      same : (elem : Elem) (b : Bool) → is_some (if b then Some (key_values resolved h key elem) else None) ≡ b
-      same elem true = refl
-      same elem false = refl
-
   pub new_stands : (keys : List Key) (index : IndexState) → index.exclusive ≡ exclusive_keys keys → index.rows ≡ [] →
       StandsFor resolved empty_graph keys index
   new_stands keys index exclusive none = record {

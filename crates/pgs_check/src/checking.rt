@@ -247,7 +247,7 @@ fn check_keys<L: Ledger>(
 }
 
 // Moves rows behind changes. Those of the first key are taken as they are.
-pub(crate) fn append(changes: &mut Vec<KeyChange>, rows: &mut Vec<KeyChange>) -> Result<(), Memory>
+fn append(changes: &mut Vec<KeyChange>, rows: &mut Vec<KeyChange>) -> Result<(), Memory>
     ensures { OnOk result (changes.new.items ≡ changes.old.items ++ rows.old.items) }
 {
     if changes.is_empty() {

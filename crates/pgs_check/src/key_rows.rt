@@ -8,10 +8,8 @@ ghost use Rattle.pgs_match.specs.Near.{IsSparse};
 ghost use Rattle.pgs_match.specs.Planned.{most_edges};
 ghost use Rattle.pgs_keyindex.specs.Standing.{values_in_scope};
 ghost use Rattle.pgs_check.specs.Clashes.{tuples_of};
-ghost use Rattle.pgs_check.specs.Own.{IsLocal};
 ghost use Rattle.pgs_check.specs.Rows.{change_of};
 
-use crate::own_row::own_values;
 use pgs_base::{Elem, Memory, Steps};
 use pgs_conform::Compiled;
 use pgs_graph::GraphRead;
@@ -55,43 +53,6 @@ fn searched_row<G: GraphRead, L: Ledger>(
         elem,
         values: Some(tuples),
     })
-}
-
-/// The row of an element, with its key values where it is in the scope. Where both patterns are one node variable nothing is searched; the
-/// caller asks that once for all elements.
-pub(crate) fn key_row<G: GraphRead, L: Ledger>(
-    alloc: Global,
-    graph: &G,
-    compiled: &Compiled,
-    number: u32,
-    key: &PlannedKey,
-    local: bool,
-    elem: Elem,
-    learned: &mut Learned,
-    steps: &mut Steps<L>,
-) -> Result<KeyChange, Memory>
-    requires typed { is_valid_key_of compiled.now key.now ≡ true }
-    requires local { local ≡ true → IsLocal key.now }
-    requires learned { IsLearned compiled.now (G.meaning graph.now) key.now learned.old }
-    ensures row { IfOk result (λ row. row ≡ change_of number (values_in_scope compiled.now (G.meaning graph.now) key.now) elem) }
-    ensures learned { IsLearned compiled.now (G.meaning graph.now) key.now learned.new }
-    ensures no_step_back { steps.old ≤ steps.new }
-    ensures cost { (most : ℕ) → IsSparse (G.meaning graph.now) (most_edges key.now) elem most →
-        steps.new ≤ steps.old + 32 * (most + 2) ^ (most_edges key.now + 1) }
-    ensures few { (most : ℕ) → IsSparse (G.meaning graph.now) (most_edges key.now) elem most →
-        IfOk result (λ row. length (tuples_of row) ≤ (most + 2) ^ most_edges key.now) }
-{
-    match elem {
-        Elem::Node(id) if local => {
-            let values = own_values(alloc, graph, compiled, key, id, steps)?;
-            Ok(KeyChange {
-                key: number,
-                elem,
-                values,
-            })
-        }
-        _ => searched_row(alloc, graph, compiled, number, key, elem, learned, steps),
-    }
 }
 
 /// The rows of elements, in their order. Each element is asked once whether it is in the scope, and its key values are searched once; what

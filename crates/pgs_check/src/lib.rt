@@ -2,8 +2,7 @@
 //!
 //! [`check_types`] finds 25 and 26 among the elements of a delta and the edges at its nodes. [`check`] goes on with each key: the elements
 //! that the change affects get their rows in the changed graph, and only these rows, with the owners that the index names for their key
-//! values, can violate it. Where nothing does, the rows are what changes of the index. [`index_of`] makes the index of a whole graph in one
-//! pass, by the rows of all scopes.
+//! values, can violate it. Where nothing does, the rows are what changes of the index.
 //! The first violation is that of `verdict` of `pgs_violation`; how it is found from rows stands in `specs/Rows.antt` and
 //! `specs/Clashes.antt`.
 #![tactic(auto)]
@@ -11,7 +10,6 @@
 mod changed_rows;
 mod checking;
 mod clash;
-mod indexing;
 mod key_rows;
 mod local_rows;
 mod own_row;
@@ -20,5 +18,4 @@ mod sharing;
 mod untyped;
 
 pub use checking::{CheckFault, check};
-pub use indexing::index_of;
 pub use untyped::check_types;

@@ -1,19 +1,14 @@
 //! The row of a node under a key whose two patterns are one node variable each, told by the node's own labels and properties.
 
-ghost use Rattle.std.specs.Prelude.{◌≡◌, ◌+◌, ◌≤◌, true, length, IfOk};
-ghost use Rattle.std.specs.Option.{option_map_or};
-ghost use Rattle.pgs_base.specs.declared.element.Elem.{Elem};
+ghost use Rattle.std.specs.Prelude.{◌≡◌, true, IfOk};
 ghost use Rattle.pgs_syntax.specs.Valid.{is_valid_key_of};
-ghost use Rattle.pgs_keyindex.specs.Standing.{values_in_scope};
 ghost use Rattle.pgs_check.specs.Own.{IsNodeAlone, IsLocal, own_part, own_tuple, own_tuples};
 
-use pgs_base::{Elem, List, Memory, NodeId, Part, Props, Steps, Tuple, TupleSet};
+use pgs_base::{Elem, List, Memory, Part, Props, Tuple, TupleSet};
 use pgs_conform::{Compiled, Pair, property_part};
-use pgs_graph::GraphRead;
 use pgs_match::{PlannedKey, Side, own_passes};
 use pgs_syntax::{Expr, Pattern};
 use std::alloc::Global;
-use std::sync::ledger::Ledger;
 
 // Whether a pattern is one node variable.
 fn is_node_alone(pattern: &Pattern) -> bool
@@ -80,35 +75,4 @@ pub(crate) fn own_tuples(
         }
     }
     Ok(tuples)
-}
-
-/// The key values of a node where it is in the scope of a key whose two patterns are one node variable each: at most one. One look-up.
-pub(crate) fn own_values<G: GraphRead, L: Ledger>(
-    alloc: Global,
-    graph: &G,
-    compiled: &Compiled,
-    key: &PlannedKey,
-    id: NodeId,
-    steps: &mut Steps<L>,
-) -> Result<Option<TupleSet>, Memory>
-    requires typed { is_valid_key_of compiled.now key.now ≡ true }
-    requires local { IsLocal key.now }
-    ensures values { IfOk result (λ values. values ≡ values_in_scope compiled.now (G.meaning graph.now) key.now (Elem.Node id)) }
-    ensures few { IfOk result (λ values. option_map_or (λ tuples. length tuples) values 0 ≤ 1) }
-    ensures tick { steps.new ≡ steps.old + 1 }
-{
-    let Some(node) = graph.node(id, steps) else {
-        return Ok(None);
-    };
-    let own = Pair {
-        labels: node.labels,
-        props: node.props,
-    };
-    let elem = Elem::Node(id);
-    if own_passes(compiled, key.pattern(Side::Scope), 0, elem, &own) {
-        let tuples = own_tuples(alloc, compiled, key, elem, &own)?;
-        Ok(Some(tuples))
-    } else {
-        Ok(None)
-    }
 }
