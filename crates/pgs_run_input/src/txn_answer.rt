@@ -1,3 +1,5 @@
+ghost use Rattle.std.specs.Prelude.{ℕ, List};
+ghost use Rattle.pgs_json.specs.Line.{Reads};
 ghost use Rattle.pgs_run_input.specs.Answers.{txn_answer};
 ghost use Rattle.pgs_run_input.specs.TextFaults.{Gives};
 
@@ -7,13 +9,12 @@ use pgs_graph::Txn;
 use pgs_json::{LineFault, read_txn};
 use std::alloc::Global;
 
-/// The transaction of a line, given without its line feed, or the text of its refusal: 21 where it is longer than `TEXT_LIMIT` bytes, then
-/// 20 where it is no transaction. `Memory` where there was none.
+/// What was read of a line, with the text of a refusal.
 #[tactic(auto, using(crate::proofs::ReadLines::read_as))]
-pub fn txn_of(alloc: Global, line: &[u8]) -> Result<Txn, TextFault>
-    ensures { Gives (txn_answer line.now) result }
+pub fn with_text(alloc: Global, read: Result<Txn, LineFault>) -> Result<Txn, TextFault>
+    ensures { (line : List ℕ) → Reads read line → Gives (txn_answer line) result }
 {
-    match read_txn(alloc, line) {
+    match read {
         Ok(txn) => Ok(txn),
         Err(LineFault::Memory) => Err(TextFault::Memory),
         Err(LineFault::Unreadable) => {
@@ -25,4 +26,13 @@ pub fn txn_of(alloc: Global, line: &[u8]) -> Result<Txn, TextFault>
             Err(TextFault::Refused(text))
         }
     }
+}
+
+/// The transaction of a line, given without its line feed, or the text of its refusal: 21 where it is longer than `TEXT_LIMIT` bytes, then
+/// 20 where it is no transaction. `Memory` where there was none. Many lines are read by a `TxnReader`.
+pub fn txn_of(alloc: Global, line: &[u8]) -> Result<Txn, TextFault>
+    ensures { Gives (txn_answer line.now) result }
+{
+    let read = read_txn(alloc, line);
+    with_text(alloc, read)
 }
