@@ -14,13 +14,9 @@ use Rattle.pgs_command.specs.declared.status.Status.{Status}
 
 -- it comes before the first call on the world
 abbrev pub is_early : Result (Option Rejection) (Stop Status) → Bool
-is_early (Ok None) = false
 is_early (Ok (Some rejection)) = true
-is_early (Err (stops.Ended status)) = false
-is_early (Err stops.ReadFault) = false
-is_early (Err stops.DiskFault) = false
-is_early (Err stops.PutFault) = false
 is_early (Err stops.Memory) = true
+is_early result = false
 
 -- a transaction that led to this graph is on the disk and done, and no area failed
 pub record IsDoneBy (before after : StoreState) (txn : Txn) (old new : View) : Type 0 where
@@ -34,8 +30,6 @@ pub record IsDoneBy (before after : StoreState) (txn : Txn) (old new : View) : T
 abbrev pub Asks : Result (Option Rejection) (Stop Status) → StoreState → StoreState → Txn → View → View → Type 0
 Asks (Ok None) before after txn old new = IsDoneBy before after txn old new
 Asks (Ok (Some rejection)) before after txn old new = (decided before.guard txn ≡ Err rejection) × (after ≡ before)
-Asks (Err (stops.Ended status)) before after txn old new = ⊥
-Asks (Err stops.ReadFault) before after txn old new = ⊥
 Asks (Err stops.DiskFault) before after txn old new = RoseByOne old.area_faults new.area_faults
-Asks (Err stops.PutFault) before after txn old new = ⊥
 Asks (Err stops.Memory) before after txn old new = after ≡ before
+Asks result before after txn old new = ⊥

@@ -1,13 +1,10 @@
-pub mod Applying
 pub mod Asking
 pub mod Committing
 pub mod Ending
 pub mod Giving
 pub mod Leaving
-pub mod Outcome
 pub mod Rule
 pub mod Run
 pub mod Seen
 pub mod Spec
-pub mod State
 pub mod Told

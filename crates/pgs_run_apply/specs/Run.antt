@@ -1,5 +1,5 @@
 -- What a run of `apply` leaves at every moment, and what its feeds took.
-use Rattle.std.specs.Prelude.{◌≡◌, ◌⊎◌, ℕ, ◌+◌, List, [], ◌∷◌, ◌++◌, length}
+use Rattle.std.specs.Prelude.{◌≡◌, ◌⊎◌, ℕ, ◌+◌, List, [], ◌∷◌, ◌++◌, length, Ok}
 use Rattle.std.specs.List.{concat}
 use Rattle.pgs_feed.specs.Given.{AreGiven}
 use Rattle.pgs_feed.specs.Places.{Place}
@@ -16,7 +16,6 @@ use Rattle.pgs_run_input.specs.Session.{Standing, standard, every_verdict, piece
 use Rattle.pgs_run_store.specs.Refusing.{SavedStore}
 use Rattle.pgs_run_apply.specs.Committing.{feed_lines}
 use Rattle.pgs_run_apply.specs.Told.{start, after, verdicts, all_lines, lost_pieces}
-use Rattle.std.specs.Prelude.{Ok}
 
 -- the two images save this store
 pub record Saves (it : SavedStore) (triple : Triple) : Type 0 where

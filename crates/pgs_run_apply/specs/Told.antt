@@ -9,6 +9,7 @@ use Rattle.pgs_command.specs.declared.status.Status.{Status}
 use Rattle.pgs_command.specs.declared.status.Status.TheVariants.{Accepted, Refused, InputTooLong}
 use Rattle.pgs_command.specs.Areas.{Areas}
 use Rattle.pgs_run_input.specs.Session.{Standing, every_verdict, after_lines, pieces_of_lines}
+use Rattle.pgs_run_apply_rule.specs.State.{status_after}
 use Rattle.pgs_run_store.specs.Refusing.{SavedStore, told_of_areas}
 
 -- where a run stands before its first line: commit numbers go on from those that are saved
@@ -37,9 +38,6 @@ is_done status = false
 
 abbrev pub last_piece : Status → ℕ → Option (List ℕ)
 last_piece status lost = if is_done status then lost_piece lost else None
-
-abbrev pub status_after : Bool → Status
-status_after refused = if refused then Refused else Accepted
 
 -- the lines of an input: the last one may have no line feed
 abbrev pub all_lines : List ℕ → List (List ℕ)

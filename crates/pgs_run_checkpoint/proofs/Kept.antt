@@ -11,18 +11,19 @@ use Rattle.pgs_snapshot.specs.Choice.{chosen_area, chosen_epoch}
 use Rattle.pgs_snapshot.specs.Saved.{SavedState, saved}
 use Rattle.pgs_snapshot.specs.Saved as states
 use Rattle.pgs_syntax.specs.declared.resolved.Resolved.{Resolved}
-use Rattle.pgs_world.specs.Moment.{EachSince, IsQuiet, IsSettled, IsTimed}
+use Rattle.pgs_world.specs.Moment.{EachSince, IsQuiet, IsSettled}
 use Rattle.pgs_world.specs.World.{Triple, View}
-use Rattle.pgs_world.proofs.Moments.{each_quiet, quiet_none}
+use Rattle.pgs_world.proofs.Moments.{each_quiet}
 use Rattle.pgs_command.specs.declared.status.Status.{Status}
 use Rattle.pgs_command.specs.declared.status.Status.TheVariants.{Accepted, Refused, BadWords, SchemaRefused, StoreRefused, DiskFault, ReadFault, PutFault, Memory, InputTooLong}
 use Rattle.pgs_command.specs.Areas.{Areas, areas_of}
 use Rattle.pgs_command.specs.Images.{KeepsImages}
-use Rattle.pgs_command.proofs.Images.{area_of_images, images_none}
+use Rattle.pgs_command.proofs.Images.{area_of_images}
 use Rattle.pgs_run_input.specs.Answers.{schema_answer, schema_or_text}
 use Rattle.pgs_run_input.specs.Session.{standard}
 use Rattle.pgs_run_store.specs.Refusing.{SavedStore, store_refused, told_of_areas, told_saved, told_under}
-use Rattle.pgs_run_checkpoint.specs.Leaving.{IsStore, IsTorn, IsUnput, LeavesRenewed, PutsFront, StopsRenewing, saved_there}
+use Rattle.pgs_run_store.specs.Spec.{IsUnput}
+use Rattle.pgs_run_checkpoint.specs.Leaving.{IsStore, IsTorn, LeavesRenewed, PutsFront, StopsRenewing, saved_there}
 use Rattle.pgs_run_checkpoint.specs.Told.{told_by, told_checkpoint}
 
 -- ---- one line is told, and it isn't empty where a checkpoint was made
@@ -131,6 +132,3 @@ puts_memory old new same = record {
   torn = λ tells is accepted. let no : Memory ≡ PutFault = is in cc;
   unput = λ is. shows_same (shown_of old) (shown_of new) same;
 }
-
-pub renewed_none : (view : View) → IsTimed view → LeavesRenewed view view Memory
-renewed_none view timed = leaves_kept view view Memory (images_none view timed) (puts_memory view view refl) (λ settled store. stops_quiet view view (quiet_none view timed) settled)

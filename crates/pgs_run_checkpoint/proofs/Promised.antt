@@ -36,7 +36,8 @@ use Rattle.pgs_world.specs.Count.{RoseByOne}
 use Rattle.pgs_world.specs.Moment.{EachSince, IsSettled}
 use Rattle.pgs_world.specs.World.{View, other}
 use Rattle.pgs_world.proofs.Moments.{each_on, quiet_now, settled_quiet}
-use Rattle.pgs_run_checkpoint.specs.Leaving.{IsStore, IsUnput, LeavesRenewed, StopsRenewing, saved_there}
+use Rattle.pgs_run_store.specs.Spec.{IsUnput}
+use Rattle.pgs_run_checkpoint.specs.Leaving.{IsStore, LeavesRenewed, StopsRenewing, saved_there}
 use Rattle.pgs_run_checkpoint.specs.Spec.{checkpoint_spec}
 use Rattle.pgs_run_checkpoint.specs.Told.{told_by, told_checkpoint}
 use Rattle.pgs_run_checkpoint.proofs.Kept.{PutsRefusal, leaves_kept, puts_memory, shows_same, stops_kept, stops_quiet}

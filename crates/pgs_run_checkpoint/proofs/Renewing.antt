@@ -29,7 +29,8 @@ use Rattle.pgs_world.specs.declared.area.Area.TheVariants.{A, B}
 use Rattle.pgs_world.specs.Moment.{EachSince, IsSettled}
 use Rattle.pgs_world.specs.World.{Triple, View, other}
 use Rattle.pgs_world.proofs.Moments.{each_on, passes_on, quiet_now}
-use Rattle.pgs_run_checkpoint.specs.Leaving.{IsAsBefore, IsRenewed, IsTorn, IsUnput, LeavesRenewed, PutsFront, StopsRenewing, records_of, saved_there}
+use Rattle.pgs_run_store.specs.Spec.{IsUnput}
+use Rattle.pgs_run_checkpoint.specs.Leaving.{IsAsBefore, IsRenewed, IsTorn, LeavesRenewed, PutsFront, StopsRenewing, records_of, saved_there}
 use Rattle.pgs_run_checkpoint.specs.Told.{told_by, told_checkpoint}
 use Rattle.pgs_run_checkpoint.proofs.Kept.{puts_none, stops_quiet}
 

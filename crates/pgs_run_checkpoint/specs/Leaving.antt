@@ -11,10 +11,11 @@ use Rattle.pgs_world.specs.declared.area.Area.{Area}
 use Rattle.pgs_world.specs.Moment.{EachSince, IsSettled, Passes}
 use Rattle.pgs_world.specs.World.{Triple, View, other}
 use Rattle.pgs_command.specs.declared.status.Status.{Status}
-use Rattle.pgs_command.specs.declared.status.Status.TheVariants.{Accepted, DiskFault, ReadFault, PutFault, Memory, InputTooLong}
+use Rattle.pgs_command.specs.declared.status.Status.TheVariants.{Accepted, DiskFault, PutFault}
 use Rattle.pgs_command.specs.Areas.{areas_of}
 use Rattle.pgs_command.specs.Images.{IsUnwritten, KeepsArea, KeepsImages}
 use Rattle.pgs_run_input.specs.Session.{standard}
+pub use Rattle.pgs_run_store.specs.Spec.{IsUnput}
 use Rattle.pgs_run_checkpoint.specs.Told.{told_checkpoint}
 
 -- what two images save
@@ -61,13 +62,6 @@ pub record StopsRenewing (start : View) (c : Triple) : Type 0 where
   pub saves : saved_there c ≡ saved_there start.shown
   pub chosen_as : IsAsBefore start.shown c ⊎ IsRenewed start.shown c
   pub whole : puts.back ≡ [] → (told_checkpoint (areas_of start)).status ≡ Accepted → IsRenewed start.shown c
-
--- with these statuses nothing was put
-abbrev pub IsUnput : Status → Type 0
-IsUnput ReadFault = Unit {0}
-IsUnput Memory = Unit {0}
-IsUnput InputTooLong = Unit {0}
-IsUnput status = ⊥
 
 -- Where a line with this status was being put: behind a checkpoint the renewed store is chosen, and behind a refusal both areas are as before.
 abbrev pub IsTorn : Status → View → View → Type 0

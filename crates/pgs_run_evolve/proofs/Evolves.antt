@@ -36,7 +36,8 @@ use Rattle.pgs_world.specs.Moment.{EachSince, IsSettled, IsTimed, Passes}
 use Rattle.pgs_world.specs.World.{Triple, View, other}
 use Rattle.pgs_world.proofs.Moments.{each_on, passes_on}
 use Rattle.pgs_run_evolve.specs.Evolving.{Kept, IsEvolving, IsEvolvingAt, IsRenewed, IsUnder}
-use Rattle.pgs_run_evolve.specs.Leaving.{EvolvesText, IsConforming, IsEvolvable, IsMade, IsUnput, LeavesEvolved, SavesAs, kept_of}
+use Rattle.pgs_run_store.specs.Spec.{IsUnput}
+use Rattle.pgs_run_evolve.specs.Leaving.{EvolvesText, IsConforming, IsEvolvable, IsMade, LeavesEvolved, SavesAs, kept_of}
 use Rattle.pgs_run_evolve.specs.Told.{line_of, told_new, told_text, told_verdict}
 use Rattle.pgs_run_evolve.proofs.Kept.{area_there, as_saved, evolved_in, next_there, renewed_in, same_renewed, saves_there}
 use Rattle.pgs_run_evolve.proofs.Leaving.{Unput, leaves_refused}

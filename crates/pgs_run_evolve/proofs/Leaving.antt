@@ -21,7 +21,8 @@ use Rattle.pgs_world.specs.Moment.{EachSince, IsQuiet, IsSettled, IsTimed, Stops
 use Rattle.pgs_world.specs.World.{Triple, View, other}
 use Rattle.pgs_world.proofs.Moments.{each_on, each_quiet, passes_on, settled_quiet}
 use Rattle.pgs_run_evolve.specs.Evolving.{IsEvolving, IsEvolvingAt, IsRenewed}
-use Rattle.pgs_run_evolve.specs.Leaving.{LeavesEvolved, IsConforming, IsMade, IsUnput, SavesAs, kept_of}
+use Rattle.pgs_run_store.specs.Spec.{IsUnput}
+use Rattle.pgs_run_evolve.specs.Leaving.{LeavesEvolved, IsConforming, IsMade, SavesAs, kept_of}
 use Rattle.pgs_run_evolve.proofs.Unmoved.{same_under, settled_under, starts_at}
 use Rattle.pgs_run_evolve.proofs.Kept.{evolving_whole, renewed_whole, same_evolving}
 use Rattle.pgs_run_evolve.proofs.Unlike.{IsUnlike}

@@ -16,7 +16,8 @@ use Rattle.pgs_world.specs.Moment.{EachSince, IsTimed}
 use Rattle.pgs_world.specs.World.{View}
 use Rattle.pgs_world.proofs.Moments.{each_quiet}
 use Rattle.pgs_run_evolve.specs.Evolving.{IsEvolvingAt}
-use Rattle.pgs_run_evolve.specs.Leaving.{LeavesEvolved, IsMade, IsUnput, SavesAs, kept_of}
+use Rattle.pgs_run_store.specs.Spec.{IsUnput}
+use Rattle.pgs_run_evolve.specs.Leaving.{LeavesEvolved, IsMade, SavesAs, kept_of}
 use Rattle.pgs_run_evolve.proofs.Unmoved.{starts_at}
 use Rattle.pgs_run_evolve.proofs.Leaving.{Unput, leaves_kept, shows_same}
 

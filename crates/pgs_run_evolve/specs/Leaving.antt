@@ -4,11 +4,12 @@ use Rattle.pgs_base.specs.Graph.{Graph}
 use Rattle.pgs_run_lines.specs.Machine.{Told}
 use Rattle.pgs_run_lines.specs.Pieces.{ShowsAll, shown_of}
 use Rattle.pgs_command.specs.declared.status.Status.{Status}
-use Rattle.pgs_command.specs.declared.status.Status.TheVariants.{Accepted, DiskFault, ReadFault, PutFault, Memory, InputTooLong}
+use Rattle.pgs_command.specs.declared.status.Status.TheVariants.{Accepted, DiskFault, PutFault}
 use Rattle.pgs_run_input.specs.Answers.{schema_answer}
 use Rattle.pgs_command.specs.Images.{IsUnwritten, KeepsArea, KeepsImages}
 use Rattle.pgs_run_input.specs.Session.{standard}
 use Rattle.pgs_run_input.specs.Text.{AnswersText}
+pub use Rattle.pgs_run_store.specs.Spec.{IsUnput}
 use Rattle.pgs_snapshot.specs.Choice.{chosen_area, chosen_next}
 use Rattle.pgs_snapshot.specs.Saved.{saved, store}
 use Rattle.pgs_store.specs.Stored.{StandsOn, StoreState}
@@ -37,13 +38,6 @@ abbrev pub IsMade : Option ℕ → List ℕ → Graph → Status → Type 0
 IsMade next text graph Accepted = Unit {0}
 IsMade next text graph PutFault = (number : ℕ) × (next ≡ Some number) × IsConforming text graph
 IsMade next text graph status = ⊥
-
--- with these statuses nothing was put
-abbrev pub IsUnput : Status → Type 0
-IsUnput ReadFault = Unit {0}
-IsUnput Memory = Unit {0}
-IsUnput InputTooLong = Unit {0}
-IsUnput status = ⊥
 
 pub record LeavesEvolved (left : Option (List ℕ)) (old new : View) (status : Status) : Type 0 where
   pub passes : Passes old new

@@ -15,7 +15,8 @@ use Rattle.pgs_command.proofs.Images.{area_of_images, each_images, images_quiet}
 use Rattle.pgs_run_input.specs.Answers.{schema_answer}
 use Rattle.pgs_run_input.specs.Input.{text_front}
 use Rattle.pgs_run_input.proofs.SameFronts.{schema_of_front}
-use Rattle.pgs_run_load.specs.Leaving.{IsUnput, LeavesLoaded}
+use Rattle.pgs_run_store.specs.Spec.{IsUnput}
+use Rattle.pgs_run_load.specs.Leaving.{LeavesLoaded}
 use Rattle.pgs_run_load.specs.Loading.{IsLoading, IsLoadingAt, IsMade, IsNewStore}
 use Rattle.pgs_run_load.proofs.Unmoved.{starts_at, starts_empty}
 use Rattle.pgs_run_load.proofs.Stops.{loading_whole, new_whole, same_loading}

@@ -30,7 +30,8 @@ use Rattle.pgs_run_input.specs.Session.{standard}
 use Rattle.pgs_run_input.proofs.Answering.{answer_ok}
 use Rattle.pgs_run_input.proofs.OneLine.{IsSilent, PutsLine, answers_failed, answers_line, answers_none, line_of_reply, same_shown, told_line}
 use Rattle.pgs_run_store.specs.Refusing.{store_refused, told_under}
-use Rattle.pgs_run_load.specs.Leaving.{IsUnput, LoadsText}
+use Rattle.pgs_run_store.specs.Spec.{IsUnput}
+use Rattle.pgs_run_load.specs.Leaving.{LoadsText}
 use Rattle.pgs_run_load.specs.Loading.{IsLoading, IsLoadingAt, IsMade, IsNewStore, TellsFor}
 use Rattle.pgs_run_load.specs.Told.{line_of, told_choice, told_text}
 use Rattle.pgs_run_load.proofs.Unmoved.{starts_at, starts_empty}

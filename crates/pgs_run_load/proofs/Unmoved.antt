@@ -1,22 +1,15 @@
 -- What is left where nothing was done.
-use Rattle.std.proofs.Common.{◌≡◌, ◌⊎◌, inl, ℕ, IsTrue, List, [], ◌∷◌, Option, sym, ap₂, subst, ◌∙◌}
+use Rattle.std.proofs.Common.{◌≡◌, ◌⊎◌, inl, ℕ, IsTrue, List, [], ◌∷◌, sym, ap₂, subst, ◌∙◌}
 use Rattle.std.proofs.lemmas.List.{append-nil}
-use Rattle.pgs_run_lines.specs.Pieces.{shown_of}
-use Rattle.pgs_run_lines.proofs.Showing.{shows_none}
 use Rattle.pgs_snapshot.specs.Choice.{choice_of}
 use Rattle.pgs_snapshot.specs.Choice as choices
 use Rattle.pgs_snapshot.specs.Saved.{saved, no_store}
 use Rattle.pgs_store.specs.Loads.{FindsNone}
 use Rattle.pgs_run_store.proofs.Conforming.{chosen_saves}
-use Rattle.pgs_world.specs.declared.area.Area.TheVariants.{B}
 use Rattle.pgs_world.specs.Moment.{IsSettled, IsTimed}
 use Rattle.pgs_world.specs.World.{Triple, View}
-use Rattle.pgs_world.proofs.Moments.{each_none, passes_none}
-use Rattle.pgs_command.specs.declared.status.Status.TheVariants.{Memory}
-use Rattle.pgs_command.proofs.Images.{area_none, images_none}
 use Rattle.pgs_run_input.specs.Session.{standard}
-use Rattle.pgs_run_load.specs.Leaving.{LeavesLoaded}
-use Rattle.pgs_run_load.specs.Loading.{IsLoading, IsLoadingAt, IsNewStore}
+use Rattle.pgs_run_load.specs.Loading.{IsLoadingAt, IsNewStore}
 
 pub nothing_saved : (c : Triple) → choice_of c.a c.b ≡ choices.no_store → saved standard c.a c.b ≡ no_store
 nothing_saved c none = chosen_saves standard c.a c.b choices.no_store none
@@ -42,16 +35,3 @@ starts_empty view free settled c may = nothing_saved c (ap₂ choice_of (settled
 
 pub starts_at : (view : View) (text : List ℕ) → IsTimed view → FindsNone view → IsTrue view.tells_output → IsSettled view → (c : Triple) → view.may_leave c → IsLoadingAt view.shown text c
 starts_at view text timed free tells settled c may = loading_here view.shown c text (timed.output settled.honest tells c may) (inl (starts_empty view free settled c may))
-
-pub loaded_none : (left : Option (List ℕ)) (view : View) → IsTimed view → LeavesLoaded left view view Memory
-loaded_none left view timed = record {
-  passes = passes_none view timed;
-  stops = λ input is free tells settled. each_none view (IsLoadingAt view.shown input) timed (starts_at view input timed free tells settled);
-  grows = λ free settled. each_none view IsLoading timed (λ c may. inl (starts_empty view free settled c may));
-  occupied = λ found. images_none view timed;
-  refused = λ input why is no. images_none view timed;
-  unwritten = λ is. images_none view timed;
-  beside = area_none B view timed;
-  made = λ tells input is free made. absurd made;
-  unput = λ is. shows_none (shown_of view);
-}

@@ -7,20 +7,14 @@ use Rattle.pgs_world.specs.declared.area.Area.TheVariants.{B}
 use Rattle.pgs_world.specs.Moment.{EachSince, IsSettled, Passes}
 use Rattle.pgs_world.specs.World.{View}
 use Rattle.pgs_command.specs.declared.status.Status.{Status}
-use Rattle.pgs_command.specs.declared.status.Status.TheVariants.{DiskFault, ReadFault, Memory, InputTooLong}
+use Rattle.pgs_command.specs.declared.status.Status.TheVariants.{DiskFault}
 use Rattle.pgs_command.specs.Areas.{areas_of}
 use Rattle.pgs_command.specs.Images.{IsUnwritten, KeepsArea, KeepsImages}
 use Rattle.pgs_run_input.specs.Answers.{schema_answer}
 use Rattle.pgs_run_input.specs.Text.{AnswersText}
+pub use Rattle.pgs_run_store.specs.Spec.{IsUnput}
 use Rattle.pgs_run_load.specs.Loading.{IsLoading, IsLoadingAt, IsMade, IsNewStore, TellsFor}
 use Rattle.pgs_run_load.specs.Told.{told_text}
-
--- with these statuses nothing was put
-abbrev pub IsUnput : Status → Type 0
-IsUnput ReadFault = Unit {0}
-IsUnput Memory = Unit {0}
-IsUnput InputTooLong = Unit {0}
-IsUnput status = ⊥
 
 -- Where both areas are free, at every moment nothing or the new store is saved; else nothing is written
 pub record LeavesLoaded (left : Option (List ℕ)) (old new : View) (status : Status) : Type 0 where

@@ -1,4 +1,4 @@
-use Rattle.std.proofs.Common.{map, filter, is_some, ap, ◌∙◌}
+use Rattle.std.proofs.Common.{map, filter, is_some, ap, ◌∙◌, arith}
 use Rattle.std.proofs.lemmas.Bool.{and_parts}
 use Rattle.pgs_keyindex.specs.Standing.{values_in_scope}
 use Rattle.pgs_match.proofs.Along.{take_whole}
@@ -6,6 +6,13 @@ use Rattle.pgs_match.proofs.Scopes.{kind_is_scope}
 use Rattle.pgs_check.specs.Rows.{change_of}
 use Rattle.pgs_check.proofs.FromNothing.{rows_of_scope, some_in_scope}
 use Rattle.pgs_check.proofs.indexing.scope_rows.Goals as goal
+
+pub loop-elem-init : goal.loop-elem-init
+loop-elem-init g c = record {
+  so_far = c.new-rows.ensures.items;
+  learned = c.new-learned.ensures c.args.compiled.now (g.G.GraphRead.meaning c.args.graph.now) c.args.key.now;
+  no_step_back = omega (arith, c.each_element.ensures.no_step_back);
+}
 
 pub returns-clause-rows : goal.returns-clause-rows
 returns-clause-rows g c =

@@ -1,4 +1,4 @@
-use Rattle.std.proofs.Common.{◌+◌, ◌*◌, ◌^◌, length, arith}
+use Rattle.std.proofs.Common.{◌+◌, ◌*◌, ◌^◌, length, arith, rules}
 use Rattle.std.specs.List.{sum_by}
 use Rattle.pgs_match.specs.Planned.{most_edges}
 use Rattle.pgs_keyindex.specs.Standing.{values_in_scope}
@@ -6,6 +6,15 @@ use Rattle.pgs_check.specs.Clashes.{tuples_of}
 use Rattle.pgs_check.specs.Rows.{change_of}
 use Rattle.pgs_check.proofs.Steps.{map_next, rate_more, rate_all, rate_from, few_all}
 use Rattle.pgs_check.proofs.key_rows.key_rows.Goals as goal
+
+pub loop-elem-init : goal.loop-elem-init
+loop-elem-init g c = record {
+  so_far = search rules;
+  learned = c.new-learned.ensures c.args.compiled.now (g.G.GraphRead.meaning c.args.graph.now) c.args.key.now;
+  no_step_back = search rules;
+  cost = search rules;
+  few = search rules;
+}
 
 pub loop-elem-preserved : goal.loop-elem-preserved
 loop-elem-preserved g c =

@@ -1,5 +1,5 @@
 -- Where a run of `apply` stands between two lines: the store, and what was counted.
-use Rattle.std.specs.Prelude.{◌≡◌, ℕ, ◌+◌, Bool, true, false}
+use Rattle.std.specs.Prelude.{◌≡◌, ℕ, ◌+◌, Bool, true, false, if◌then◌else◌}
 use Rattle.pgs_base.specs.Graph.{Graph}
 use Rattle.pgs_codec.specs.declared.command.Command.TheVariants.{Txn as Transaction}
 use Rattle.pgs_graph.specs.declared.operation.Txn.{Txn}
@@ -7,6 +7,8 @@ use Rattle.pgs_journal.specs.declared.journal.Journal.{Journal}
 use Rattle.pgs_store.specs.State.{GuardState}
 use Rattle.pgs_store.specs.Stored.{StandsOn, committed, longer}
 use Rattle.pgs_world.specs.World.{View}
+use Rattle.pgs_command.specs.declared.status.Status.{Status}
+use Rattle.pgs_command.specs.declared.status.Status.TheVariants.{Accepted, Refused}
 use Rattle.pgs_run_input.specs.Session.{Standing, standard}
 
 -- the store, how many lines are numbered so far, and whether one was refused
@@ -35,6 +37,10 @@ with_commit s txn g = record {
   number = s.number + 1;
   refused = s.refused;
 }
+
+-- the status after a whole input, by whether a line was refused
+abbrev pub status_after : Bool → Status
+status_after refused = if refused then Refused else Accepted
 
 -- the store is within the limits of the program, no area failed under it, and it stands on the world
 pub record HoldsStore (s : ApplyState) (view : View) : Type 0 where

@@ -22,7 +22,7 @@ use Rattle.pgs_command.specs.Images.{KeepsArea}
 use Rattle.pgs_run_input.specs.Answers.{txn_answer}
 use Rattle.pgs_run_input.specs.Input.{is_skipped}
 use Rattle.pgs_run_input.specs.Session.{standard, decision_on}
-use Rattle.pgs_run_apply.specs.State.{ApplyState, HoldsStore, with_refusal, with_commit}
+use Rattle.pgs_run_apply_rule.specs.State.{ApplyState, HoldsStore, with_refusal, with_commit}
 
 -- the state after lines, what they tell, and what they give to feeds, behind how many of these pieces
 pub record Outcome : Type 0 where
@@ -110,18 +110,14 @@ stop_of (Err stop) = Some stop
 abbrev pub come_to : ApplyState → Outcome → Option (Stop Status) → Outcome
 come_to s o None = o
 come_to s o (Some (stops.Ended status)) = o
-come_to s o (Some stops.ReadFault) = skipping s
-come_to s o (Some stops.DiskFault) = skipping s
 come_to s o (Some stops.PutFault) = o
-come_to s o (Some stops.Memory) = skipping s
+come_to s o (Some stop) = skipping s
 
 -- what stops the taking of a line: a call on the world that failed, or want of memory
 abbrev pub IsFault : Stop Status → Type 0
 IsFault (stops.Ended status) = ⊥
 IsFault stops.ReadFault = ⊥
-IsFault stops.DiskFault = Unit {0}
-IsFault stops.PutFault = Unit {0}
-IsFault stops.Memory = Unit {0}
+IsFault stop = Unit {0}
 
 -- the taking of a line of this outcome from a state on
 pub record Takes {T : Type 0} (kind : ListKind) (s : ApplyState) (o : Outcome) (result : Result T (Stop Status)) (now : ApplyState)
