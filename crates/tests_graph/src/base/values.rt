@@ -146,8 +146,8 @@ fn pair(alloc: Global, number: i64) -> Result<Tuple, Memory> {
 /// Which of the tuples of 1, -5 and 1 were new; of a copy, whether the least comes first, whether the other is there, and how many.
 fn tell_tuples(alloc: Global, told: &mut Told) -> Result<(), Memory> {
     let mut set = TupleSet::new(alloc);
-    for number in [1, -5, 1] {
-        told.truth(set.insert(pair(alloc, number)?)?);
+    for number in &[1, -5, 1] {
+        told.truth(set.insert(pair(alloc, *number)?)?);
     }
     let copied = set.copy(alloc)?;
     told.truth(copied.at(0) == Some(&pair(alloc, -5)?));
@@ -171,10 +171,10 @@ fn shared_text(alloc: Global, text: &str) -> Result<Text, Memory> {
 
 /// Shared names and texts outlive what they were made of, and a box holds its value.
 fn tell_shared(alloc: Global, told: &mut Told) -> Result<(), Memory> {
-    for text in ["a", "sixteen_letters_", "seventeen_letters"] {
+    for text in &["a", "sixteen_letters_", "seventeen_letters"] {
         told.bytes(" ", shared_name(alloc, text)?.bytes());
     }
-    for text in ["", "a", "a text of more than sixteen bytes"] {
+    for text in &["", "a", "a text of more than sixteen bytes"] {
         told.word(" ");
         told.word(shared_text(alloc, text)?.text());
     }

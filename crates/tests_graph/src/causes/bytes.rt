@@ -81,9 +81,9 @@ fn wrong_fronts(alloc: Global, line: &[u8]) -> Result<u64, Memory> {
 fn wrong_at(alloc: Global, line: &[u8], place: usize) -> Result<u64, Memory> {
     let mut changed = Vec::from_slice(alloc, line)?;
     let mut wrong = 0u64;
-    for other in OTHERS {
+    for other in &OTHERS {
         if let Some(byte) = changed.get_mut(place) {
-            *byte = other;
+            *byte = *other;
         }
         if !is_right(alloc, changed.as_slice())? {
             wrong = wrong.saturating_add(1);

@@ -215,9 +215,9 @@ impl Plain {
         if self.edges.get(id).is_some() {
             return Err(Fault::Unable(Cause::AlreadyThere(Elem::Edge(EdgeId(id)))));
         }
-        for node in [ends.0, ends.1] {
-            if self.nodes.get(node).is_none() {
-                return no_node(node);
+        for node in &[ends.0, ends.1] {
+            if self.nodes.get(*node).is_none() {
+                return no_node(*node);
             }
         }
         self.edges.put(id, Some(PlainEdge { ends, carried }));
