@@ -7,7 +7,7 @@ ghost use Rattle.pgs_follow.specs.Followed.{nothing_followed, faulted, committed
 use crate::fault::FollowFault;
 use pgs_base::{Limits, Memory};
 use pgs_graph::{Graph, Txn};
-use pgs_json::{CommitFault, read_commit};
+use pgs_json::{CommitFault, LineReader};
 use pgs_txn::{StageFault, delta_of};
 use std::alloc::Global;
 use std::marker::Model;
@@ -16,6 +16,7 @@ use std::marker::Model;
 /// that ended it. Contracts see these, and the limits.
 pub struct Progress {
     alloc: Global,
+    reader: LineReader,
     limits: Limits,
     graph: Graph,
     commits: u64,
@@ -28,6 +29,7 @@ impl Drop for Progress {
     fn drop(self) {
         let Progress {
             alloc: _,
+            reader: _,
             limits: _,
             graph: _,
             commits: _,
@@ -59,6 +61,7 @@ impl Progress {
     {
         Progress {
             alloc,
+            reader: LineReader::new(),
             limits,
             graph: Graph::new(alloc),
             commits: 0,
@@ -126,7 +129,7 @@ impl Progress {
         if self.fault.is_some() {
             return Ok(());
         }
-        match read_commit(self.alloc, line) {
+        match self.reader.read_commit(self.alloc, line) {
             Ok((number, txn)) => self.take_commit(number, &txn),
             Err(CommitFault::Memory) => Err(Memory),
             Err(CommitFault::Unreadable) => {

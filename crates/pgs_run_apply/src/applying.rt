@@ -20,7 +20,7 @@ use pgs_base::{Bytes, Limits, Memory, TEXT_LIMIT};
 use pgs_command::Status;
 use pgs_feed::Feeds;
 use pgs_graph::Txn;
-use pgs_run_input::{TextFault, txn_of};
+use pgs_run_input::{TextFault, TxnReader};
 use pgs_run_lines::{LineTaker, Stop, is_blank, put_piece};
 use pgs_store::Store;
 use pgs_violation::Rejection;
@@ -31,6 +31,7 @@ use std::alloc::Global;
 #[derive(Drop)]
 pub struct Applying<L> {
     store: Store,
+    reader: TxnReader,
     number: u64,
     refused: bool,
     feeds: L,
@@ -44,6 +45,7 @@ impl<L: Feeds> Applying<L> {
     {
         Applying {
             store,
+            reader: TxnReader::new(),
             number: 0,
             refused: false,
             feeds,
@@ -161,7 +163,7 @@ impl<L: Feeds> Applying<L> {
         if is_blank(line, TEXT_LIMIT) {
             return Ok(());
         }
-        match txn_of(alloc, line) {
+        match self.reader.read(alloc, line) {
             Ok(txn) => self.take_txn(alloc, world, &txn),
             Err(TextFault::Refused(text)) => self.refuse(alloc, world, text.as_slice()),
             Err(TextFault::Memory) => Err(Stop::Memory),

@@ -11,6 +11,7 @@ mod schema_part;
 mod text;
 mod text_fault;
 mod txn_answer;
+mod txn_reader;
 
 pub use lines::is_separator;
 pub use schema_answer::{fault_of, refusal_of, refused_line, schema_of};
@@ -18,3 +19,4 @@ pub use schema_part::SchemaPart;
 pub use text::read_text;
 pub use text_fault::TextFault;
 pub use txn_answer::txn_of;
+pub use txn_reader::TxnReader;

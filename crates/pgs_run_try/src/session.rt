@@ -13,7 +13,7 @@ use crate::decider::{Decider, apply, open_decider};
 use pgs_answer::{committed_line, refused_line, rejection_text};
 use pgs_base::{Bytes, Limits, List, Memory, Seed, TEXT_LIMIT};
 use pgs_graph::Txn;
-use pgs_run_input::{TextFault, txn_of};
+use pgs_run_input::{TextFault, TxnReader};
 use pgs_run_lines::is_blank;
 use pgs_store::GuardRefusal;
 use pgs_violation::{Rejection, Violation};
@@ -24,6 +24,7 @@ use std::marker::Model;
 #[derive(Drop)]
 pub struct Session {
     decider: Decider,
+    reader: TxnReader,
     number: u64,
     refused: bool,
 }
@@ -58,6 +59,7 @@ impl Session {
         let decider = open_decider(alloc, judging, text, seed)?;
         Ok(Session {
             decider,
+            reader: TxnReader::new(),
             number: 0,
             refused: false,
         })
@@ -153,7 +155,7 @@ impl Session {
         ensures piece { IfOk result (λ piece. pieces_in piece ≡ telling_by self.old.judging self.old.standing
             (answer_to (verdict_by self.old.judging self.old.schema) self.old.standing.graph line.now)) }
     {
-        match txn_of(alloc, line) {
+        match self.reader.read(alloc, line) {
             Ok(txn) => self.take_txn(alloc, &txn),
             Err(TextFault::Refused(text)) => self.refuse(alloc, text.as_slice()),
             Err(TextFault::Memory) => Err(Memory),
