@@ -135,6 +135,25 @@ def rings(count):
     return measured(schema("LOOSE", [], key), [{"ops": [node(2, "A")]}], [{"ops": made}])
 
 
+def behind_hub(count):
+    """So many elements at a hub, of whose scope the other branch at the hub isn't there, and one edge more."""
+    graph = [node(1, "H", t=1)]
+    for at in range(count):
+        graph += [node(10 + at, "A"), edge(10 + at, 10 + at, 1, "r")]
+    more = [{"ops": [node(100_000 + at, "A"), edge(100_000 + at, 100_000 + at, 1, "r")]} for at in range(20)]
+    return measured(schema("LOOSE", [], "FOR (x:A)-[:r]->({t: 1})<-[:r]-(:D) MANDATORY x.k"), lines(graph), more)
+
+
+def two_places(count):
+    """A value at one node, from which so many ways lead over a hub to as many elements."""
+    graph = [node(1, "V", t=2), node(2, "H")]
+    for at in range(count):
+        graph += [node(10 + at, "M"), edge(10 + at, 1, 10 + at, "r"), edge(200_000 + at, 10 + at, 2, "r")]
+        graph += [node(100_000 + at, "X", k=1), edge(100_000 + at, 2, 100_000 + at, "r")]
+    key = "FOR (x:X)<-[:r]-(:H)<-[:r]-(:M)<-[:r]-(:V {t: 1}) MANDATORY x.k"
+    return measured(schema("LOOSE", [], key), lines(graph), [{"ops": [changed(1, "t", 1 + at % 2)]} for at in range(10)])
+
+
 def start(leaves, count):
     """A start of a store that replays a hub of so many values and so many records more, each of a value more."""
     declared, records = schema("LOOSE", TYPES, EXCLUSIVE), lines(star(leaves), 10_000) + grown(leaves, count)
@@ -160,6 +179,11 @@ CASES = [
     ("two steps over a hub of 400, one edge", lambda: chain(400)),
     ("rings of three through a hub of 300, by one line", lambda: rings(300)),
     ("rings of three through a hub of 600, by one line", lambda: rings(600)),
+    ("a scope behind a hub of 1000, none given", lambda: behind_hub(1000)),
+    ("a scope behind a hub of 2000, none given", lambda: behind_hub(2000)),
+    ("a scope behind a hub of 4000, none given", lambda: behind_hub(4000)),
+    ("500 ways over a hub to 500 elements, one value", lambda: two_places(500)),
+    ("1000 ways over a hub to 1000 elements, one value", lambda: two_places(1000)),
     ("a start that replays 61 records, hub of 4000", lambda: start(4000, 60)),
 ]
 
