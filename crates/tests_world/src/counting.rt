@@ -16,7 +16,7 @@ use std::alloc::Global;
 pub const LIMIT: usize = 80;
 
 /// How the counting ended.
-#[derive(Clone, Copy, Debug, PartialEq, Eq, Drop)]
+#[derive(Clone, Copy, Debug, Drop)]
 pub enum CountEnd {
     /// The input was read to its end.
     Counted,

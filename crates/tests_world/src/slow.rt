@@ -3,12 +3,11 @@
 ghost use Rattle.std.specs.Prelude.{refl};
 
 use pgs_base::Seed;
-use pgs_world::{PutFault, World};
+use pgs_world::World;
 use pgs_world_files::{AreaFiles, FileWorld, StoreFile, SystemFile};
 use pgs_world_streams::{SteadyWrite, write_whole};
 use std::alloc::Global;
 use std::io::{self, ErrorKind, Write};
-use std::test::Fail;
 
 /// Takes one byte of a write. It is interrupted at each write from the second to the last of these, counted from 1, and fails at one.
 #[derive(Drop)]
@@ -75,35 +74,23 @@ impl SteadyWrite for Slow {
     }
 }
 
-/// Whether two bytes aren't written where the writes up to this one are interrupted, and how many writes were made.
-fn written(alloc: Global, interrupted_to: u32) -> (bool, u32) {
-    let mut writer = Slow::new(alloc, interrupted_to, 0);
+/// Puts whether two bytes aren't written where the writes up to this one are interrupted, and how many writes were made.
+pub fn put_write(out: &mut String, alloc: Global, interrupted_to: u64) -> Option<()> {
+    let mut writer = Slow::new(alloc, interrupted_to.min(100_000) as u32, 0);
     let fails = write_whole(&mut writer, 0, b"ab").is_err();
-    (fails, writer.writes)
+    write!(out, "{fails}, {}", writer.writes).ok()
 }
 
 type NoAreas<'a> = AreaFiles<StoreFile<SystemFile<'a, HostRuntime>>>;
 
-/// What three puts answer where the second write is interrupted and the fifth fails, and what was written.
-fn three_puts(rt: &HostRuntime) -> ([Result<(), PutFault>; 3], Vec<u8>) {
+/// Puts what three puts answer where the second write is interrupted and the fifth fails, and what was written.
+pub fn put_puts(out: &mut String, rt: &HostRuntime) -> Option<()> {
     let areas: NoAreas<'_> = AreaFiles::absent();
     let mut world = FileWorld::new(areas, Slow::new(rt.alloc(), 2, 5), Seed::Fixed);
-    let answers = [world.put(b"ab"), world.put(b"cd"), world.put(b"e")];
-    (answers, world.into_writer().kept)
-}
-
-// The thousandth interruption in a row is a fault, and pieces are put whole or a front of them is.
-#[test]
-fn pieces_are_put_whole_or_a_front_of_them_is(rt: HostRuntime) -> Result<(), Fail> {
-    let interrupted = [written(rt.alloc(), 1_000), written(rt.alloc(), 1_001)];
-    let (answers, kept) = three_puts(&rt);
-    assert_eq!(rt;
-        (interrupted, answers, kept.as_slice()),
-        (
-            [(false, 1_001), (true, 1_001)],
-            [Ok(()), Err(PutFault), Ok(())],
-            b"abce".as_slice()
-        )
-    );
-    Ok(())
+    for piece in ["ab", "cd", "e"] {
+        write!(out, "{:?}, ", world.put(piece.as_bytes())).ok()?;
+    }
+    let writer = world.into_writer();
+    out.push_str(str::from_utf8(writer.kept.as_slice()).ok()?)
+        .ok()
 }

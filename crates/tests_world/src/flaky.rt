@@ -2,10 +2,9 @@
 
 ghost use Rattle.std.specs.Prelude.{refl};
 
-use pgs_world::{Source, SourceFault};
-use pgs_world_streams::{Cause, StdinSource, SteadyRead};
+use pgs_world::Source;
+use pgs_world_streams::{StdinSource, SteadyRead};
 use std::io::{self, Read};
-use std::test::Fail;
 
 /// Gives one byte, then an error, then another byte and the end.
 #[derive(Drop)]
@@ -35,19 +34,11 @@ impl SteadyRead for Flaky {
     }
 }
 
-/// What four reads answer, and the cause that is kept then.
-fn four_reads() -> ([Result<usize, SourceFault>; 4], Option<Cause>) {
+/// Puts what four reads answer, and the cause that is kept then.
+pub fn put_reads(out: &mut String) -> Option<()> {
     let mut source = StdinSource::new(Flaky { reads: 0 });
-    let mut seen = [Ok(0); 4];
-    for place in &mut seen {
-        *place = source.read(&mut [0; 4]);
+    for _ in 0..4 {
+        write!(out, "{:?}, ", source.read(&mut [0; 4])).ok()?;
     }
-    (seen, source.cause())
-}
-
-#[test]
-fn a_fault_is_told_and_the_next_read_goes_on(rt: HostRuntime) -> Result<(), Fail> {
-    let want = [Ok(1), Err(SourceFault), Ok(1), Ok(0)];
-    assert_eq!(rt; four_reads(), (want, Some(Cause::Unread)));
-    Ok(())
+    write!(out, "{:?}", source.cause()).ok()
 }

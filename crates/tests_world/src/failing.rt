@@ -1,12 +1,10 @@
 //! A sync that failed: what was written may be lost though the next sync succeeds.
 
-use pgs_base::Memory;
 use pgs_world_files::{Handle, NamedFile, StoreFile};
 use std::alloc::Global;
 use std::cell::Cell;
 use std::io::{self, ErrorKind};
 use std::rc::Rc;
-use std::test::Fail;
 
 /// A place and a byte for each write so far.
 type Written = Rc<Cell<[Option<(u64, u8)>; 4]>>;
@@ -88,26 +86,22 @@ impl NamedFile for Failing {
     }
 }
 
-/// Whether each of two syncs fails, and what was written between.
-fn synced_twice(alloc: Global, named: bool) -> Result<([bool; 2], [Option<(u64, u8)>; 4]), Memory> {
-    let written = Rc::new(alloc, Cell::new([None; 4]))?;
+// A file of a store over such a file, which tells there what was written.
+fn store_file(written: &Written, named: bool) -> Option<StoreFile<Failing>> {
     let failing = Failing {
         syncs: 0,
         named,
         opened: false,
-        written: written.clone()?,
+        written: written.clone().ok()?,
     };
-    let mut store = StoreFile::new(failing, 1025);
-    let answers = [store.sync_once(0).is_err(), store.sync_once(1).is_err()];
-    Ok((answers, written.get()))
+    Some(StoreFile::new(failing, 1025))
 }
 
-// A failed sync writes a byte of each block again, and a file without its name is not synced.
-#[test]
-fn a_sync_behind_a_failed_one_tells_of_all(rt: HostRuntime) -> Result<(), Fail> {
-    let seen = synced_twice(rt.alloc(), true)?;
-    let (nameless, _) = synced_twice(rt.alloc(), false)?;
-    let blocks = [Some((0, 0)), Some((512, 1)), Some((1024, 2)), None];
-    assert_eq!(rt; (seen, nameless), (([true, false], blocks), [true, true]));
-    Ok(())
+/// Puts whether each of two syncs fails of a file that is found by its name, or isn't, and what was written between.
+pub fn put_syncs(out: &mut String, alloc: Global, named: bool) -> Option<()> {
+    let written = Rc::new(alloc, Cell::new([None; 4])).ok()?;
+    let mut store = store_file(&written, named)?;
+    let first = store.sync_once(0).is_err();
+    let second = store.sync_once(1).is_err();
+    write!(out, "{first}, {second}, {:?}", written.get()).ok()
 }
