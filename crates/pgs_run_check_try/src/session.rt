@@ -14,7 +14,7 @@ use pgs_answer::{refused_line, rejection_text};
 use pgs_base::{Bytes, Limits, List, Memory, Steps, TEXT_LIMIT};
 use pgs_command::Status;
 use pgs_graph::Txn;
-use pgs_run_input::{TextFault, TxnReader};
+use pgs_run_input::{TextFault, txn_of};
 use pgs_run_lines::is_blank;
 use pgs_store::{Guard, GuardRefusal};
 use pgs_violation::Rejection;
@@ -27,7 +27,6 @@ use std::sync::ledger::{Blank, Ledger};
 #[derive(Drop)]
 pub struct Session {
     guard: Guard,
-    reader: TxnReader,
     number: u64,
     refused: bool,
 }
@@ -82,7 +81,6 @@ impl Session {
     {
         Session {
             guard,
-            reader: TxnReader::new(),
             number: 0,
             refused: false,
         }
@@ -177,7 +175,7 @@ impl Session {
         ensures lines { IfOk result (λ lines. TellsWith (AreLineCauses self.old.text self.old.schema self.old.standing.graph line.now)
             self.old.standing (answer_to (verdict self.old.schema) self.old.standing.graph line.now) lines.items) }
     {
-        match self.reader.read(alloc, line) {
+        match txn_of(alloc, line) {
             Ok(txn) => self.take_txn(alloc, &txn),
             Err(TextFault::Refused(text)) => {
                 let causes = read_causes(alloc, line)?;
