@@ -1,5 +1,5 @@
-//! What is found from the elements of a change in both patterns of a key: from each element by itself where a pattern has at most one edge
-//! variable, and else from all together, so that no pair of a variable and an element is gone back from twice.
+//! What is found from the elements of a change in both patterns of a key: from each element by itself where a pattern has no cycle and these
+//! are few, and else from all together, so that no pair of a variable and an element is gone back from twice.
 
 ghost use Rattle.std.specs.Prelude.{◌≡◌, ◌+◌, ◌*◌, ◌^◌, ◌≤◌, ◌++◌, ◌==◌, not, ℕ, true, false, cond, List, length, map, filter, IfOk, OnOk};
 ghost use Rattle.std.specs.List.{flat_map};
@@ -22,6 +22,11 @@ use pgs_match::{PlannedKey, Side, Stand, spread};
 use std::alloc::Global;
 use std::sync::ledger::Ledger;
 
+// How many elements of a change are each searched from in a pattern without a cycle. Where one line changes more of them at one hub, each
+// search would go over the hub again. A search from one element gives only what the matches reach, where all that leads back from it may be
+// many more.
+const MOST_SEARCHED: usize = 8;
+
 // The row of an element of a change in the new graph, or in the old one.
 fn row_in<'k, 'a>(known: &'k Known<'a>, is_new: bool) -> &'k Option<Pair<'a>>
     ensures { result.now ≡ row_in is_new known.now }
@@ -30,13 +35,12 @@ fn row_in<'k, 'a>(known: &'k Known<'a>, is_new: bool) -> &'k Option<Pair<'a>>
 }
 
 impl<'a> Sought<'a> {
-    // Whether the pattern is searched from each element by itself: so it is where it has at most one edge variable. With more, the walks
-    // from several elements meet at a hub, and each search would go over it again.
-    fn is_searched(&self) -> bool
+    // Whether the pattern is searched from each element by itself: so it is where it has one variable, or no cycle and the elements are few.
+    fn is_searched(&self, known: &[Known<'_>]) -> bool
         ensures { result ≡ false → (length (pattern_of self.now.side self.now.key.now).edge_vars == 1) ≡ false }
     {
-        let edge_vars = self.key.pattern(self.side).edge_vars.as_slice();
-        edge_vars.len() == 1 || edge_vars.iter().filter(|is_edge| **is_edge).count() <= 1
+        self.key.pattern(self.side).edge_vars.len() == 1
+            || (known.len() <= MOST_SEARCHED && self.key.is_tree(self.side))
     }
 
     // Adds an element at each variable that its row passes.
@@ -166,8 +170,8 @@ pub(crate) fn found_by_all<G: GraphRead, H: GraphRead, L: Ledger>(
         side: Side::Descriptor,
     };
     let searched = Searched {
-        scope: scope.is_searched(),
-        descriptor: descriptor.is_searched(),
+        scope: scope.is_searched(known),
+        descriptor: descriptor.is_searched(known),
     };
     let mut elems = searched_by_all(alloc, before, after, known, compiled, key, searched, steps)?;
     scope.add_more(
