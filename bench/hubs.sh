@@ -154,6 +154,16 @@ def two_places(count):
     return measured(schema("LOOSE", [], key), lines(graph), [{"ops": [changed(1, "t", 1 + at % 2)]} for at in range(10)])
 
 
+def values_over_hub(count):
+    """So many elements at a hub that get a value over it, which also has so many edges that lead to none, and one value more at the hub."""
+    graph = [node(1, "Hub"), node(2, "R"), edge(2, 1, 2, "pay")]
+    for at in range(count):
+        graph += [node(10 + at, "P"), edge(10 + at, 10 + at, 1, "pay"), node(100_000 + at, "Q"), edge(100_000 + at, 1, 100_000 + at, "pay")]
+    more = [{"ops": [node(200_000 + at, "R"), edge(200_000 + at, 1, 200_000 + at, "pay")]} for at in range(5)]
+    key = "FOR (x:P) MANDATORY y WITHIN (x)-[:pay]->(:Hub)-[:pay]->(y:R)"
+    return measured(schema("LOOSE", [], key), lines(graph[:3]) + lines(graph[3:], 4000), more)
+
+
 def start(leaves, count):
     """A start of a store that replays a hub of so many values and so many records more, each of a value more."""
     declared, records = schema("LOOSE", TYPES, EXCLUSIVE), lines(star(leaves), 10_000) + grown(leaves, count)
@@ -184,6 +194,9 @@ CASES = [
     ("a scope behind a hub of 4000, none given", lambda: behind_hub(4000)),
     ("500 ways over a hub to 500 elements, one value", lambda: two_places(500)),
     ("1000 ways over a hub to 1000 elements, one value", lambda: two_places(1000)),
+    ("values over a hub of 500 that leads to few", lambda: values_over_hub(500)),
+    ("values over a hub of 1000 that leads to few", lambda: values_over_hub(1000)),
+    ("values over a hub of 2000 that leads to few", lambda: values_over_hub(2000)),
     ("a start that replays 61 records, hub of 4000", lambda: start(4000, 60)),
 ]
 
