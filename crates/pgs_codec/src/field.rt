@@ -75,7 +75,11 @@ pub(crate) fn size_of_all<F: Field>(fields: &[F]) -> usize
     size
 }
 
-/// Reads so many fields, one after another. Memory grows with the fields that are there, not with the count.
+// For how many fields room is made before they are read.
+const MOST_BEFORE: usize = 256;
+
+/// Reads so many fields, one after another. A short list takes no more memory than its fields need. That of a long one grows with the fields that
+/// are there, not with the count.
 pub(crate) fn read_all<F: Field>(
     alloc: Global,
     reader: &mut Reader<'_>,
@@ -83,7 +87,7 @@ pub(crate) fn read_all<F: Field>(
 ) -> Result<Vec<F>, Unread>
     ensures { Reads (λ fields. fields.items) result reader.new.rest.now (many_at F.field_at count reader.old.rest.now) }
 {
-    let mut fields = Vec::new(alloc);
+    let mut fields = Vec::with_capacity(alloc, count.min(MOST_BEFORE))?;
     for _ in 0..count {
         let field = F::read(alloc, reader)?;
         fields.push(field)?;

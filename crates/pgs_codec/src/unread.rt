@@ -2,7 +2,7 @@ ghost use Rattle.std.specs.Prelude.{◌≡◌};
 ghost use Rattle.pgs_codec.specs.declared.unread.Unread.TheVariants.{Memory as OutOfMemory, Unfit as NotFit};
 
 use pgs_base::Memory;
-use std::alloc::AllocFailed;
+use std::alloc::{AllocError, AllocFailed};
 
 /// The bytes are not those of what is read.
 #[derive(Clone, Copy, PartialEq, Eq)]
@@ -29,6 +29,14 @@ impl From<Memory> for Unread {
     ghost from_gives = { λ _ e. e ≡ OutOfMemory };
 
     fn from(_: Memory) -> Unread {
+        Unread::Memory
+    }
+}
+
+impl From<AllocError> for Unread {
+    ghost from_gives = { λ _ e. e ≡ OutOfMemory };
+
+    fn from(_: AllocError) -> Unread {
         Unread::Memory
     }
 }

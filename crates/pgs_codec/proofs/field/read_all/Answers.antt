@@ -6,7 +6,7 @@ use Rattle.pgs_codec.proofs.field.read_all.Goals as goal
 
 pub returns-in_err-field : goal.returns-in_err-field
 returns-in_err-field g c =
-    let p = err_from_is_err_and c.from_residual.result c.from_residual.ensures.1 in
+    let p = err_from_is_err_and c.from_residual-in_err-field.result c.from_residual-in_err-field.ensures.1 in
     rw (p.1, p.2) (ends g.F.Field.field_at c.loop.fields.items c.args.count c.loop.counter c.loop.reader.rest.now
     (many_at g.F.Field.field_at c.args.count c.args.reader.now.rest.now) c.in_err-field.field-0.0 c.loop-test.true c.in_err-field.ensures c.loop.invariant)
 
