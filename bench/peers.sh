@@ -1,9 +1,10 @@
 #!/usr/bin/env bash
 # Times the program beside what a user would pick instead: SQLite (by a small C program with prepared statements), plain Rust over the
-# standard library's maps and serde_json, and what this disk takes for the same writes and syncs. All works are done once a turn, one after
-# another, so that whatever else the machine does meets all of them alike; then the medians of all turns and their ratios are printed as a
-# table, with the goal of each, and what machine it was. Where work waits on a disk the clock is compared, else the processor's time, system
-# calls included. A peer that isn't installed is left out, and so said.
+# standard library's maps and serde_json, and what this disk takes for the same writes and syncs. The generated transactions meet Rust twice:
+# with labels and properties in ordered sets and maps, judged first and then done; and by hash maps over rows in vectors, judged and done at
+# once. All works are done once a turn, one after another, so that whatever else the machine does meets all of them alike; then the medians of
+# all turns and their ratios are printed as a table, with the goal of each, and what machine it was. Where work waits on a disk the clock is
+# compared, else the processor's time, system calls included. A peer that isn't installed is left out, and so said.
 #
 # The program of bench/json.sh, by which the reading of lines is compared with `from_slice` of serde_json's port, is proved and built first,
 # where no check has kept what it stands on; `--no-build` leaves it out.
@@ -30,7 +31,9 @@ compiled() {
 }
 compiled disk gcc -O2 -o "$work/disk" "$bench/peers/disk.c"
 compiled SQLite gcc -O2 -o "$work/tables" "$bench/peers/tables.c" -lsqlite3
-compiled Rust rustc -O -A warnings -o "$work/generated" "$bench/peers/generated.rs"
+for peer in generated hashed; do
+  compiled "Rust ($peer)" rustc -O -A warnings -o "$work/$peer" "$bench/peers/$peer.rs"
+done
 # serde_json comes from Debian's sources, without a network.
 mkdir -p "$work/reading/src" "$work/reading/.cargo"
 cp "$bench/peers/reading.rs" "$work/reading/src/main.rs"
@@ -108,6 +111,7 @@ RUNS = {
     "gen": (program, ["gen", "1000003", str(transactions)], {}),
     "gen, SQLite": (at("tables"), ["gen", "1000003", str(transactions)], {}),
     "gen, Rust": (at("generated"), ["1000003", str(transactions)], {}),
+    "gen, hashed": (at("hashed"), ["1000003", str(transactions)], {}),
     "apply": (program, ["apply", "durable"], {"source": "commits.lines", "before": fresh}),
     "apply, disk": (at("disk"), [at("disk.area"), str(commits), str(record)], {}),
     "apply, no syncs": (program, ["apply", "durable"], {"source": "commits.lines", "folder": memory, "before": lambda: fresh(memory)}),
@@ -150,7 +154,8 @@ def times(text, own, peer, kind, words, goal, more):
 
 work_of = f"gen 1000003 {transactions:,}"
 times(work_of, "gen", "gen, SQLite", processor, "SQLite in memory", 3, True)
-times(work_of, "gen", "gen, Rust", processor, "plain Rust", 2, False)
+times(work_of, "gen", "gen, Rust", processor, "plain Rust, ordered rows", 2, False)
+times(work_of, "gen", "gen, hashed", processor, "plain Rust, hash maps, Vec rows", 1.4, False)
 work_of = f"{commits:,} commits by apply"
 if clock["apply, disk"] is not None:
     # The second says what is the program's own where syncs take long and each time another time.

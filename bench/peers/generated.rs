@@ -1,4 +1,4 @@
-// The workload over the standard library's maps: a transaction is a list of operations, which are checked first and then done.
+// The workload over the standard library's maps, with rows in ordered ones: a transaction is a list of operations, which are checked first and then done.
 use std::collections::{BTreeMap, BTreeSet, HashMap};
 
 #[derive(Clone, PartialEq, Eq, Hash)]
