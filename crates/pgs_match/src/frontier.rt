@@ -179,43 +179,6 @@ impl<'a, G: GraphRead> Frontier<'a, G> {
         }
     }
 
-    // The same from an edge.
-    fn lead_from_edge<L: Ledger>(
-        &self,
-        ways: &[Step],
-        edge: Bound,
-        notes: &mut Notes,
-        steps: &mut Steps<L>,
-    ) -> Result<Vec<Bound>, Memory>
-        requires names { list_all (names_types self.now.asking.search.compiled.now) self.now.asking.search.atoms.now ≡ true }
-        requires place { EndsIn self.now.asking.whole.now self.now.asking.whole.now }
-        requires right { AreNoted self.now.asking.search.compiled.now (G.meaning self.now.asking.search.graph.now) self.now.asking.search.atoms.now self.now.asking.whole.now notes.old }
-        ensures all { IfOk result (λ ends. AreAllOf (led_on self.now.asking.search.compiled.now (G.meaning self.now.asking.search.graph.now) self.now.asking.search.atoms.now self.now.asking.whole.now ways.now edge) ends.items) }
-        ensures right { AreNoted self.now.asking.search.compiled.now (G.meaning self.now.asking.search.graph.now) self.now.asking.search.atoms.now self.now.asking.whole.now notes.new }
-        ensures full { StayFull notes.old notes.new }
-        ensures no_step_back { steps.old ≤ steps.new }
-        ensures cost { steps.new ≤ steps.old + on_most self.now.asking.search.compiled.now (G.meaning self.now.asking.search.graph.now) self.now.asking.search.atoms.now self.now.asking.whole.now 0 ways.now edge }
-        ensures once { (var : ℕ) (pairs : Items Stand) → length self.now.asking.whole.now ≤ 19 → is_path var ways.now ≡ true → IsAmong (G.meaning self.now.asking.search.graph.now) pairs var edge →
-            IsClosed self.now.asking.search.compiled.now (G.meaning self.now.asking.search.graph.now) self.now.asking.search.atoms.now pairs ways.now → IsClosed self.now.asking.search.compiled.now (G.meaning self.now.asking.search.graph.now) self.now.asking.search.atoms.now pairs self.now.asking.whole.now →
-            OnOk result (IsPaidOn (G.meaning self.now.asking.search.graph.now) pairs notes.old notes.new steps.old steps.new (1 + hops_most (G.meaning self.now.asking.search.graph.now) (length self.now.asking.whole.now) ways.now pairs)) }
-        ensures few { (var : ℕ) (pairs : Items Stand) → is_path var ways.now ≡ true → IsAmong (G.meaning self.now.asking.search.graph.now) pairs var edge →
-            IsClosed self.now.asking.search.compiled.now (G.meaning self.now.asking.search.graph.now) self.now.asking.search.atoms.now pairs ways.now → IsClosed self.now.asking.search.compiled.now (G.meaning self.now.asking.search.graph.now) self.now.asking.search.atoms.now pairs self.now.asking.whole.now →
-            IfOk result (λ ends. length ends.items ≤ sum_by (λ (stand : Stand). elem_degree (G.meaning self.now.asking.search.graph.now) stand.elem + 2) pairs) }
-    {
-        match head(ways) {
-            None => {
-                let mut ends = Vec::new(self.alloc);
-                ends.push(edge)?;
-                Ok(ends)
-            }
-            Some((Step::Along { .. }, _)) => Ok(Vec::new(self.alloc)),
-            Some((Step::End { node, source, .. }, rest)) => match end_of(Some(edge), source) {
-                Some(id) if self.is_kept(node, id, notes, steps) => self.lead_on(rest, &[id], notes, steps),
-                _ => Ok(Vec::new(self.alloc)),
-            },
-        }
-    }
-
     /// To what the steps of a way lead from what its first variable is bound to.
     pub(crate) fn lead_from<L: Ledger>(
         &self,
@@ -241,7 +204,23 @@ impl<'a, G: GraphRead> Frontier<'a, G> {
     {
         match bound {
             Bound::Node(id) => self.lead_on(ways, &[id], notes, steps),
-            Bound::Edge { .. } => self.lead_from_edge(ways, bound, notes, steps),
+            Bound::Edge { .. } => match head(ways) {
+                None => {
+                    let mut ends = Vec::new(self.alloc);
+                    ends.push(bound)?;
+                    Ok(ends)
+                }
+                Some((Step::Along { .. }, _)) => Ok(Vec::new(self.alloc)),
+                Some((Step::End { node, source, .. }, rest)) => match end_of(Some(bound), source) {
+                    Some(id) if self.is_kept(node, id, notes, steps) => self.lead_on(
+                        rest,
+                        &[id],
+                        notes,
+                        steps,
+                    ),
+                    _ => Ok(Vec::new(self.alloc)),
+                },
+            },
         }
     }
 }

@@ -52,7 +52,9 @@ impl<'a, G: GraphRead> Frontier<'a, G> {
             Some(answer) => answer,
             None => {
                 let answer = match self.asking.search.admit_node(var, id, steps) {
-                    Some(bound) => self.asking.given(self.asking.whole, var, bound, &mut notes.off, steps),
+                    Some(bound) => self
+                        .asking
+                        .given(self.asking.whole, var, bound, &mut notes.off, steps),
                     None => false,
                 };
                 notes.on.note(var, id, answer);
@@ -82,7 +84,10 @@ impl<'a, G: GraphRead> Frontier<'a, G> {
             IsPaidOn (G.meaning self.now.asking.search.graph.now) pairs notes.old notes.new steps.old steps.new (3 + length self.now.asking.whole.now) }
     {
         let bound = self.asking.search.admit_edge(var, id, steps)?;
-        if self.asking.given(self.asking.whole, var, bound, &mut notes.off, steps) {
+        if self
+            .asking
+            .given(self.asking.whole, var, bound, &mut notes.off, steps)
+        {
             Some(bound)
         } else {
             None
