@@ -197,3 +197,188 @@ closed_parts resolved g atoms pairs wanted (step ∷ steps) closed =
         IsClosed resolved g atoms pairs (cond on (step ∷ on_way wanted steps) (on_way wanted steps)) × IsClosed resolved g atoms pairs (cond on (off_way wanted steps) (step ∷ off_way wanted steps))
     by true one rest = ((one, rest.0), rest.1)
     by false one rest = (rest.0, (one, rest.1))
+
+-- ---- paths
+
+-- a path goes from no variable but its first and those that it binds
+path_apart : (ways : List Step) (at var : ℕ) → is_path at ways ≡ true → (at == var) ≡ false → is_bound_in ways var ≡ false → list_any (goes_from var) ways ≡ false
+path_apart [] at var path apart none = refl
+path_apart (step ∷ ways) at var path apart none =
+    let parts = and_parts (goes_from at step) _ path in
+    by (bound_by step == var) refl none (goes_apart step parts.0) (path_apart ways (bound_by step) var parts.1)
+  where
+    goes_apart : (step : Step) → goes_from at step ≡ true → goes_from var step ≡ false
+    goes_apart (Along edge node forward) goes = ap (λ v. v == var) (eqb-true node at goes) ∙ apart
+    goes_apart (End edge node source) goes = ap (λ v. v == var) (eqb-true edge at goes) ∙ apart
+
+    by : (b : Bool) → (bound_by step == var) ≡ b → (b || is_bound_in ways var) ≡ false → goes_from var step ≡ false →
+        ((bound_by step == var) ≡ false → is_bound_in ways var ≡ false → list_any (goes_from var) ways ≡ false) → (goes_from var step || list_any (goes_from var) ways) ≡ false
+    by true is h goes rest = absurd (true≢false h)
+    by false is h goes rest = ap (λ t. t || list_any (goes_from var) ways) goes ∙ rest is h
+
+not_same : (a b : ℕ) → a ≢ b → (a == b) ≡ false
+not_same a b apart = by (a == b) refl
+  where
+    by : (t : Bool) → (a == b) ≡ t → (a == b) ≡ false
+    by true is = absurd (apart (eqb-true a b is))
+    by false is = is
+
+neither : (a b : Bool) → (a || b) ≡ false → (a ≡ false) × (b ≡ false)
+neither true b h = absurd (true≢false h)
+neither false b h = (refl, h)
+
+one_of_both : (n : ℕ) (a b c : Bool) → (a ≡ true → (c ≡ true) × (b ≡ false)) → cond a n 0 + cond b n 0 ≤ cond (c || b) n 0
+one_of_both n true true c give = absurd (true≢false (give refl).1)
+one_of_both n true false true give = omega arith
+one_of_both n true false false give = absurd (true≢false (sym (give refl).0))
+one_of_both n false true true give = omega arith
+one_of_both n false false true give = omega arith
+one_of_both n false true false give = omega arith
+one_of_both n false false false give = omega arith
+
+sum_both : (f h all : Stand → ℕ) → ((stand : Stand) → f stand + h stand ≤ all stand) → (pairs : List Stand) → sum_by f pairs + sum_by h pairs ≤ sum_by all pairs
+sum_both f h all each [] = omega arith
+sum_both f h all each (stand ∷ pairs) =
+    let rest = sum_both f h all each pairs in
+    let own = each stand in
+    let one = sum_by-cons f stand pairs in
+    let two = sum_by-cons h stand pairs in
+    let three = sum_by-cons all stand pairs in
+    omega (arith, rest, own, one, two, three)
+
+module _ (g : Graph) (count : ℕ) where
+  -- what is counted of a pair from which some step goes
+  abbrev from_most : List Step → Stand → ℕ
+  from_most ways stand = cond (list_any (goes_from stand.var) ways) (hop_most g count stand) 0
+
+  hops_from : (pairs : List Stand) (ways : List Step) (at : ℕ) → is_path at ways ≡ true → is_bound_in ways at ≡ false → IsOnce ways → hops_most g count ways pairs ≤ sum_by (from_most ways) pairs
+  hops_from pairs [] at path none once = omega arith
+  hops_from pairs (Along edge node forward ∷ ways) at path none once =
+      let parts = and_parts (node == at) _ path in
+      let same : node ≡ at = eqb-true node at parts.0 in
+      let free = neither (edge == at) (is_bound_in ways at) none in
+      let rest = hops_from pairs ways edge parts.1 once.0 once.1 in
+      let apart : list_any (goes_from node) ways ≡ false = path_apart ways edge node parts.1 (ap (λ v. edge == v) same ∙ free.0) (ap (is_bound_in ways) same ∙ free.1) in
+      let both = sum_both (λ (stand : Stand). cond (stand.var == node) (hop_most g count stand) 0) (from_most ways) (from_most (Along edge node forward ∷ ways)) (λ stand. each stand apart) pairs in
+      omega (arith, rest, both)
+    where
+      each : (stand : Stand) → list_any (goes_from node) ways ≡ false →
+          cond (stand.var == node) (hop_most g count stand) 0 + from_most ways stand ≤ from_most (Along edge node forward ∷ ways) stand
+      each stand apart =
+          one_of_both (hop_most g count stand) (stand.var == node) (list_any (goes_from stand.var) ways) (node == stand.var)
+          (λ is. let same : stand.var ≡ node = eqb-true stand.var node is in (eq-eqb node stand.var (sym same), ap (λ v. list_any (goes_from v) ways) same ∙ apart))
+  hops_from pairs (End edge node source ∷ ways) at path none once =
+      let parts = and_parts (edge == at) _ path in
+      let rest = hops_from pairs ways node parts.1 once.0 once.1 in
+      let both = sum_both (λ (stand : Stand). 0) (from_most ways) (from_most (End edge node source ∷ ways))
+      (λ stand. one_of_both (hop_most g count stand) false (list_any (goes_from stand.var) ways) (edge == stand.var) (λ is. absurd (true≢false (sym is)))) pairs in
+      omega (arith, rest, both)
+
+-- along a path over the edges of each pair it is gone once
+pub hops_add : (g : Graph) (count : ℕ) (pattern : Pattern) (var : ℕ) (steps : List Step) (wanted : List ℕ) (pairs : List Stand) → is_valid_pattern pattern ≡ true → is_plan pattern var steps ≡ true →
+    is_path var (on_way wanted steps) ≡ true → hops_most g count (on_way wanted steps) pairs ≤ sum_by (hop_most g count) pairs
+hops_add g count pattern var steps wanted pairs valid plans path =
+    let once = steps_once pattern valid steps (known_alone var) (size_alone pattern valid var) (steps_of pattern valid var steps plans) in
+    let none = start_once pattern valid var steps plans in
+    let ways : List Step = on_way wanted steps in
+    let first = hops_from g count pairs ways var path (none_parts wanted var steps none).0 (once_parts wanted steps once).0 in
+    let less = sum_both (λ (stand : Stand). 0) (from_most g count ways) (hop_most g count)
+    (λ stand. one_of_both (hop_most g count stand) false (list_any (goes_from stand.var) ways) true (λ is. absurd (true≢false (sym is)))) pairs in
+    omega (arith, first, less)
+
+-- ---- the way to one variable
+
+one_of_two : (var other v : ℕ) (wanted : List ℕ) → list_all (λ w. w == var || w == other) wanted ≡ true → is_wanted wanted v ≡ true → (v ≡ var) ⊎ (v ≡ other)
+one_of_two var other v [] two has = absurd (true≢false (sym has))
+one_of_two var other v (w ∷ wanted) two has =
+    let parts = and_parts (w == var || w == other) _ two in
+    ⊎_elim
+    (λ here. let same : w ≡ v = eqb-true w v here in
+    ⊎_elim (λ h. inl (sym same ∙ eqb-true w var h)) (λ h. inr (sym same ∙ eqb-true w other h)) (or_cases (w == var) (w == other) parts.0))
+    (one_of_two var other v wanted parts.1) (or_cases (w == v) _ has)
+
+-- a path with steps has one from its first variable
+path_goes : (ways : List Step) (at other : ℕ) → is_path at ways ≡ true → is_bound_in ways other ≡ true → list_any (goes_from at) ways ≡ true
+path_goes [] at other path some = absurd (true≢false (sym some))
+path_goes (step ∷ ways) at other path some = or_left _ _ (and_parts (goes_from at step) _ path).0
+
+step_goes : (atoms : List Atom) (known : List Bool) (step : Step) → is_step atoms known step ≡ true → (at : ℕ) × (is_known known at ≡ true) × (goes_from at step ≡ true)
+step_goes atoms known (Along edge node forward) is = let goes = eq-eqb node node refl in (node, step_from atoms known (Along edge node forward) node is goes, goes)
+step_goes atoms known (End edge node source) is = let goes = eq-eqb edge edge refl in (edge, step_from atoms known (End edge node source) edge is goes, goes)
+
+-- steps are a path from a known variable to one that they bind
+record IsLed (known : List Bool) (other : ℕ) (ways : List Step) : Type 0 where
+  from : ℕ
+  here : is_known known from ≡ true
+  path : is_path from ways ≡ true
+  end : end_var from ways ≡ other
+  bound : is_bound_in ways other ≡ true
+
+-- a step before them
+led_more : (known : List Bool) (other : ℕ) (step : Step) (ways : List Step) → (at : ℕ) × (is_known known at ≡ true) × (goes_from at step ≡ true) → is_path (bound_by step) ways ≡ true →
+    end_var (bound_by step) ways ≡ other → (bound_by step ≡ other) ⊎ (is_bound_in ways other ≡ true) → IsLed known other (step ∷ ways)
+led_more known other step ways from path end bound = record {
+  from = from.0;
+  here = from.1;
+  path = and_from _ _ from.2 path;
+  end = end;
+  bound = ⊎_elim (λ same. or_left _ _ (eq-eqb (bound_by step) other same)) (λ later. or_right _ _ later) bound;
+}
+
+module _ (pattern : Pattern) (valid : is_valid_pattern pattern ≡ true) (var other : ℕ) (wanted : List ℕ) (two : list_all (λ v. v == var || v == other) wanted ≡ true) where
+  module _ (step : Step) (plan : List Step) (known : List Bool) (from : (at : ℕ) × (is_known known at ≡ true) × (goes_from at step ≡ true)) (new : is_known known (bound_by step) ≡ false)
+      (start : is_known known var ≡ true) (none : is_bound_in (on_way wanted plan) (bound_by step) ≡ false) where
+    abbrev ways : List Step
+    ways = on_way wanted plan
+
+    -- what a step binds is the first variable on no account
+    is_other : is_wanted wanted (bound_by step) ≡ true → bound_by step ≡ other
+    is_other want = ⊎_elim (λ same. absurd (true≢false (sym start ∙ ap (is_known known) (sym same) ∙ new))) (λ same. same) (one_of_two var other (bound_by step) wanted two want)
+
+    on_none : is_on_way wanted ways step ≡ true → ways ≡ [] → IsLed known other (step ∷ ways)
+    on_none on empty =
+        let same : bound_by step ≡ other = ⊎_elim is_other (λ goes. absurd (true≢false (sym goes ∙ ap (list_any (goes_from (bound_by step))) empty)))
+        (or_cases (is_wanted wanted (bound_by step)) (list_any (goes_from (bound_by step)) ways) on) in
+        led_more known other step ways from (ap (is_path (bound_by step)) empty) (ap (end_var (bound_by step)) empty ∙ same) (inl same)
+
+    on_some : is_on_way wanted ways step ≡ true → IsLed (and_known known (bound_by step)) other ways → IsLed known other (step ∷ ways)
+    on_some on led = ⊎_elim joined apart (one_or_other led.from (bound_by step))
+      where
+        joined : led.from ≡ bound_by step → IsLed known other (step ∷ ways)
+        joined same = led_more known other step ways from (subst (λ v. is_path v ways ≡ true) same led.path) (subst (λ v. end_var v ways ≡ other) same led.end) (inr led.bound)
+
+        apart : led.from ≢ bound_by step → IsLed known other (step ∷ ways)
+        apart differ = absurd
+            (⊎_elim (λ want. true≢false (sym led.bound ∙ ap (is_bound_in ways) (sym (is_other want)) ∙ none))
+            (λ goes. true≢false (sym goes ∙ path_apart ways led.from (bound_by step) led.path (not_same led.from (bound_by step) differ) none))
+            (or_cases (is_wanted wanted (bound_by step)) (list_any (goes_from (bound_by step)) ways) on))
+
+    off_some : is_on_way wanted ways step ≡ false → IsLed (and_known known (bound_by step)) other ways → IsLed known other ways
+    off_some off led = record {
+      from = led.from;
+      here = ⊎_elim
+          (λ same. absurd (true≢false (sym (or_right (is_wanted wanted (bound_by step)) _ (path_goes ways (bound_by step) other (subst (λ v. is_path v ways ≡ true) same led.path) led.bound)) ∙ off)))
+          (λ differ. sym (known_other known (bound_by step) led.from differ) ∙ led.here) (one_or_other led.from (bound_by step));
+      path = led.path;
+      end = led.end;
+      bound = led.bound;
+    }
+
+    led_by : (on : Bool) → is_on_way wanted ways step ≡ on → (ways ≡ []) ⊎ IsLed (and_known known (bound_by step)) other ways →
+        (cond on (step ∷ ways) ways ≡ []) ⊎ IsLed known other (cond on (step ∷ ways) ways)
+    led_by true is (inl empty) = inr (on_none is empty)
+    led_by true is (inr led) = inr (on_some is led)
+    led_by false is (inl empty) = inl empty
+    led_by false is (inr led) = inr (off_some is led)
+
+  ways_led : (plan : List Step) (known : List Bool) → length known ≡ 20 → are_steps pattern.atoms known plan ≡ true → is_known known var ≡ true →
+      (on_way wanted plan ≡ []) ⊎ IsLed known other (on_way wanted plan)
+  ways_led [] known size steps start = inl refl
+  ways_led (step ∷ plan) known size steps start =
+      let parts = and_parts (is_step pattern.atoms known step) _ steps in
+      let bounds = step_bounds pattern pattern.atoms known step (bound_by step) valid refl refl parts.0 in
+      let now : is_known (and_known known (bound_by step)) (bound_by step) ≡ true = known_now known (bound_by step) (omega (arith, size, bounds.1)) in
+      let none = never_again pattern valid plan (and_known known (bound_by step)) (bound_by step) parts.1 now in
+      let rest = ways_led plan (and_known known (bound_by step)) (length-set known (bound_by step) true ∙ size) parts.1 (known_still known (bound_by step) var start) in
+      led_by step plan known (step_goes pattern.atoms known step parts.0) bounds.2 start (none_parts wanted (bound_by step) plan none).0
+      (is_on_way wanted (on_way wanted plan) step) refl rest
