@@ -382,3 +382,73 @@ module _ (pattern : Pattern) (valid : is_valid_pattern pattern ≡ true) (var ot
       let rest = ways_led plan (and_known known (bound_by step)) (length-set known (bound_by step) true ∙ size) parts.1 (known_still known (bound_by step) var start) in
       led_by step plan known (step_goes pattern.atoms known step parts.0) bounds.2 start (none_parts wanted (bound_by step) plan none).0
       (is_on_way wanted (on_way wanted plan) step) refl rest
+
+  -- and so are the steps of a plan on the way, where there are any
+  way_led : (plan : List Step) → is_plan pattern var plan ≡ true → (on_way wanted plan ≡ []) ⊎ IsLed (known_alone var) other (on_way wanted plan)
+  way_led [] plans = inl refl
+  way_led (step ∷ plan) plans =
+      ways_led (step ∷ plan) (known_alone var) (size_alone pattern valid var) (steps_of pattern valid var (step ∷ plan) plans) (start_there pattern valid var step plan plans).1
+
+-- what is known after steps was known before, or is bound by one
+known_by : (plan : List Step) (known : List Bool) (var : ℕ) → is_known (known_after known plan) var ≡ true → (is_known known var ≡ true) ⊎ (is_bound_in plan var ≡ true)
+known_by [] known var is = inl is
+known_by (step ∷ plan) known var is =
+    ⊎_elim
+    (λ before. ⊎_elim (λ same. inr (or_left _ _ (eq-eqb (bound_by step) var (sym same)))) (λ apart. inl (sym (known_other known (bound_by step) var apart) ∙ before)) (one_or_other var (bound_by step)))
+    (λ later. inr (or_right _ _ later)) (known_by plan (and_known known (bound_by step)) var is)
+
+-- the step that binds a wanted variable is on the way
+wanted_on : (wanted : List ℕ) (var : ℕ) → is_wanted wanted var ≡ true → (plan : List Step) → is_bound_in plan var ≡ true → is_bound_in (on_way wanted plan) var ≡ true
+wanted_on wanted var want [] has = has
+wanted_on wanted var want (step ∷ plan) has = by (is_on_way wanted (on_way wanted plan) step) refl (wanted_on wanted var want plan) (or_cases (bound_by step == var) _ has)
+  where
+    by : (on : Bool) → is_on_way wanted (on_way wanted plan) step ≡ on → (is_bound_in plan var ≡ true → is_bound_in (on_way wanted plan) var ≡ true) →
+        ((bound_by step == var) ≡ true) ⊎ (is_bound_in plan var ≡ true) → is_bound_in (cond on (step ∷ on_way wanted plan) (on_way wanted plan)) var ≡ true
+    by true is rest (inl here) = or_left _ _ here
+    by true is rest (inr later) = or_right _ _ (rest later)
+    by false is rest (inl here) = absurd (true≢false (sym (or_left _ _ (ap (is_wanted wanted) (eqb-true (bound_by step) var here) ∙ want)) ∙ is))
+    by false is rest (inr later) = rest later
+
+-- each variable that expressions take is wanted
+all_wanted : (wanted : List ℕ) (exprs : List Expr) → ((v : ℕ) → is_wanted (map read_var exprs) v ≡ true → is_wanted wanted v ≡ true) → list_all (λ (expr : Expr). is_wanted wanted (read_var expr)) exprs ≡ true
+all_wanted wanted [] within = refl
+all_wanted wanted (expr ∷ exprs) within =
+    and_from _ _ (within (read_var expr) (or_left _ _ (eq-eqb (read_var expr) (read_var expr) refl))) (all_wanted wanted exprs (λ v has. within v (or_right _ _ has)))
+
+module _ (pattern : Pattern) (valid : is_valid_pattern pattern ≡ true) (var other : ℕ) (steps : List Step) (plans : is_plan pattern var steps ≡ true) (wanted : List ℕ) where
+  -- where no step is on the way, a wanted variable is the first
+  at_start : on_way wanted steps ≡ [] → (v : ℕ) → is_wanted wanted v ≡ true → v < length pattern.edge_vars → v ≡ var
+  at_start empty v want below =
+      let known = covers_at pattern.edge_vars (known_after (known_alone var) steps) v (and_parts (are_steps pattern.atoms (known_alone var) steps) _ plans).1 below in
+      ⊎_elim (alone var v) (λ bound. absurd (true≢false (sym (wanted_on wanted v want steps bound) ∙ ap (λ ways. is_bound_in ways v) empty))) (known_by steps (known_alone var) v known)
+
+  none_taken : on_way wanted steps ≡ [] → (exprs : List Expr) → list_all (λ (expr : Expr). is_wanted wanted (read_var expr)) exprs ≡ true →
+      list_all (λ (expr : Expr). nat_lt (read_var expr) (length pattern.edge_vars)) exprs ≡ true →
+      list_all (λ (expr : Expr). read_var expr == var || read_var expr == end_var var (on_way wanted steps)) exprs ≡ true
+  none_taken empty [] want reads = refl
+  none_taken empty (expr ∷ exprs) want reads =
+      let one = and_parts (is_wanted wanted (read_var expr)) _ want in
+      let both = and_parts (nat_lt (read_var expr) (length pattern.edge_vars)) _ reads in
+      and_from _ _ (or_left _ _ (eq-eqb (read_var expr) var (at_start empty (read_var expr) one.0 (ltb-true (read_var expr) (length pattern.edge_vars) both.0)))) (none_taken empty exprs one.1 both.1)
+
+  two_taken : end_var var (on_way wanted steps) ≡ other → (exprs : List Expr) → list_all (λ v. v == var || v == other) (map read_var exprs) ≡ true →
+      list_all (λ (expr : Expr). read_var expr == var || read_var expr == end_var var (on_way wanted steps)) exprs ≡ true
+  two_taken end [] two = refl
+  two_taken end (expr ∷ exprs) two =
+      let parts = and_parts (read_var expr == var || read_var expr == other) _ two in
+      and_from _ _ (ap (λ v. read_var expr == var || read_var expr == v) end ∙ parts.0) (two_taken end exprs parts.1)
+
+-- where expressions take one variable beside the first, the steps on the way to what they take are a path to it
+pub way_is_path : (pattern : Pattern) (var other : ℕ) (steps : List Step) (exprs : List Expr) → is_valid_pattern pattern ≡ true → is_plan pattern var steps ≡ true →
+    list_all (λ v. v == var || v == other) (map read_var exprs) ≡ true → list_all (λ (expr : Expr). nat_lt (read_var expr) (length pattern.edge_vars)) exprs ≡ true →
+    leads_to_one var (on_way (map read_var exprs) steps) exprs ≡ true
+way_is_path pattern var other steps exprs valid plans two reads =
+    ⊎_elim
+    (λ empty. and_from _ _ (and_from _ _ (ap (is_path var) empty) (ap not none)) (none_taken pattern valid var other steps plans (map read_var exprs) empty exprs (all_wanted (map read_var exprs) exprs (λ v has. has)) reads))
+    (λ led. let same : led.from ≡ var = alone var led.from led.here in
+    and_from _ _ (and_from _ _ (subst (λ v. is_path v (on_way (map read_var exprs) steps) ≡ true) same led.path) (ap not none))
+    (two_taken pattern valid var other steps plans (map read_var exprs) (subst (λ v. end_var v (on_way (map read_var exprs) steps) ≡ other) same led.end) exprs two))
+    (way_led pattern valid var other (map read_var exprs) two steps plans)
+  where
+    none : is_bound_in (on_way (map read_var exprs) steps) var ≡ false
+    none = (none_parts (map read_var exprs) var steps (start_once pattern valid var steps plans)).0
