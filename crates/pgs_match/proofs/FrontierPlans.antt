@@ -1,7 +1,7 @@
 -- The steps of a plan on the way to some variables and those off it: each variable is bound by one, and the way to one variable is a path.
 use Rattle.std.proofs.Common.{◌≡◌, ◌≢◌, ◌⊎◌, inl, inr, ⊎_elim, ℕ, ◌+◌, ◌<◌, ◌≤◌, Bool, true, false, ◌&&◌, ◌||◌, ◌==◌, not, cond, List, [], ◌∷◌, length, map, replicate, nat_lt, refl, sym, ◌∙◌, ap, subst, true≢false, arith}
 use Rattle.std.specs.List.{list_any, list_all, sum_by}
-use Rattle.std.proofs.lemmas.Bool.{and_parts, and_from, or_cases, or_left, or_right, eqb-true, eq-eqb, not-true, lt-ltb, ltb-true}
+use Rattle.std.proofs.lemmas.Bool.{and_parts, and_from, or_cases, or_left, or_right, eqb-true, eq-eqb, or_parts, ne_eqb, lt-ltb, ltb-true}
 use Rattle.std.proofs.lemmas.List.{length-set}
 use Rattle.std.proofs.lemmas.List.Sums.{sum_by-cons}
 use Rattle.pgs_base.specs.Graph.{Graph}
@@ -16,9 +16,9 @@ use Rattle.pgs_match.specs.declared.stand.Stand.{Stand}
 use Rattle.pgs_match.specs.Answers.{behind, is_bound_in, EndsIn, HasAhead, IsClosed}
 use Rattle.pgs_match.specs.Branches.{goes_from}
 use Rattle.pgs_match.specs.Frontier.{is_path, end_var, leads_to_one, hop_most, hops_most}
-use Rattle.pgs_match.specs.Plans.{bound_by, is_known, and_known, known_alone, known_after, is_step, are_steps, covers, is_plan}
+use Rattle.pgs_match.specs.Plans.{bound_by, is_known, and_known, known_alone, known_after, is_step, are_steps, is_plan}
 use Rattle.pgs_match.specs.Routes.{is_on_way, on_way, off_way}
-use Rattle.pgs_match.proofs.Counts.{left, left_less, one_less, some_at}
+use Rattle.pgs_match.proofs.Counts.{left, one_less}
 use Rattle.pgs_match.proofs.Bounded.{all_left}
 use Rattle.pgs_match.proofs.Known.{valid_speaks, valid_most, edge_below, node_below, ends_kinds, step_bounds, known_now, known_still, covers_at}
 use Rattle.pgs_match.proofs.OnWay.{is_wanted, step_from, step_new}
@@ -216,17 +216,6 @@ path_apart (step ∷ ways) at var path apart none =
     by true is h goes rest = absurd (true≢false h)
     by false is h goes rest = ap (λ t. t || list_any (goes_from var) ways) goes ∙ rest is h
 
-not_same : (a b : ℕ) → a ≢ b → (a == b) ≡ false
-not_same a b apart = by (a == b) refl
-  where
-    by : (t : Bool) → (a == b) ≡ t → (a == b) ≡ false
-    by true is = absurd (apart (eqb-true a b is))
-    by false is = is
-
-neither : (a b : Bool) → (a || b) ≡ false → (a ≡ false) × (b ≡ false)
-neither true b h = absurd (true≢false h)
-neither false b h = (refl, h)
-
 one_of_both : (n : ℕ) (a b c : Bool) → (a ≡ true → (c ≡ true) × (b ≡ false)) → cond a n 0 + cond b n 0 ≤ cond (c || b) n 0
 one_of_both n true true c give = absurd (true≢false (give refl).1)
 one_of_both n true false true give = omega arith
@@ -256,7 +245,7 @@ module _ (g : Graph) (count : ℕ) where
   hops_from pairs (Along edge node forward ∷ ways) at path none once =
       let parts = and_parts (node == at) _ path in
       let same : node ≡ at = eqb-true node at parts.0 in
-      let free = neither (edge == at) (is_bound_in ways at) none in
+      let free = or_parts (edge == at) (is_bound_in ways at) none in
       let rest = hops_from pairs ways edge parts.1 once.0 once.1 in
       let apart : list_any (goes_from node) ways ≡ false = path_apart ways edge node parts.1 (ap (λ v. edge == v) same ∙ free.0) (ap (is_bound_in ways) same ∙ free.1) in
       let both = sum_both (λ (stand : Stand). cond (stand.var == node) (hop_most g count stand) 0) (from_most ways) (from_most (Along edge node forward ∷ ways)) (λ stand. each stand apart) pairs in
@@ -350,7 +339,7 @@ module _ (pattern : Pattern) (valid : is_valid_pattern pattern ≡ true) (var ot
         apart : led.from ≢ bound_by step → IsLed known other (step ∷ ways)
         apart differ = absurd
             (⊎_elim (λ want. true≢false (sym led.bound ∙ ap (is_bound_in ways) (sym (is_other want)) ∙ none))
-            (λ goes. true≢false (sym goes ∙ path_apart ways led.from (bound_by step) led.path (not_same led.from (bound_by step) differ) none))
+            (λ goes. true≢false (sym goes ∙ path_apart ways led.from (bound_by step) led.path (ne_eqb led.from (bound_by step) differ) none))
             (or_cases (is_wanted wanted (bound_by step)) (list_any (goes_from (bound_by step)) ways) on))
 
     off_some : is_on_way wanted ways step ≡ false → IsLed (and_known known (bound_by step)) other ways → IsLed known other ways

@@ -1,15 +1,14 @@
 -- The routes along a path to one variable: the tuples under them are those of its ends, and each end takes no more look-ups than its routes.
-use Rattle.std.proofs.Common.{◌≡◌, ◌≢◌, ◌⊎◌, inl, inr, ⊎_elim, ℕ, ◌+◌, ◌*◌, ◌<◌, ◌≤◌, Bool, true, false, ◌&&◌, ◌||◌, ◌==◌, not, cond, List, [], ◌∷◌, ◌++◌, flat_map, length, length-append, map, filter, fold, replicate, nat_lt, Option, Some, None, refl, sym, ◌∙◌, ap, subst, true≢false, arith}
+use Rattle.std.proofs.Common.{◌≡◌, ◌≢◌, ◌⊎◌, ⊎_elim, ℕ, ◌+◌, ◌*◌, ◌<◌, ◌≤◌, Bool, true, false, ◌&&◌, ◌||◌, ◌==◌, not, cond, List, [], ◌∷◌, flat_map, length, length-append, map, filter, fold, nat_lt, Option, Some, None, refl, sym, ◌∙◌, ap, subst, true≢false, arith}
 use Rattle.std.specs.Prelude.{option_and_then, option_map}
 use Rattle.std.specs.Option.{option_map_or}
-use Rattle.std.specs.List.{Contains, list_any, list_all, filter_map, cons_option, sum_by}
+use Rattle.std.specs.List.{list_any, list_all, filter_map, cons_option, sum_by}
 use Rattle.std.specs.BTreeMap.{is_at}
-use Rattle.std.proofs.Math.Bool.{or-false}
 use Rattle.std.proofs.Math.Nat.{mul-add}
-use Rattle.std.proofs.lemmas.Bool.{and_parts, and_from, or_cases, or_left, or_right, eqb-true, eq-eqb, not-true, lt-ltb, ltb-true}
+use Rattle.std.proofs.lemmas.Bool.{and_parts, or_cases, eqb-true, eq-eqb, or_parts, not-true, ltb-true}
 use Rattle.std.proofs.lemmas.List.{length-set}
+use Rattle.std.proofs.lemmas.List.Folds.{fold-map}
 use Rattle.std.proofs.lemmas.List.Sums.{sum_by-cons}
-use Rattle.pgs_base.specs.declared.element.EdgeId.{EdgeId}
 use Rattle.pgs_base.specs.declared.part.Part.{Part}
 use Rattle.pgs_base.specs.declared.part.Part.TheVariants as parts
 use Rattle.pgs_base.specs.declared.row.NodeRow.{NodeRow}
@@ -31,7 +30,7 @@ use Rattle.pgs_match.specs.declared.step.Step.TheVariants.{Along, End}
 use Rattle.pgs_match.specs.declared.bindings.Bound.{Bound}
 use Rattle.pgs_match.specs.Answers.{is_bound_in}
 use Rattle.pgs_match.specs.Bounds.{elem_of, bound_at, with_bound, nothing_bound, end_at}
-use Rattle.pgs_match.specs.Branches.{goes_from, can_be_given, next_bounds, asked_most}
+use Rattle.pgs_match.specs.Branches.{can_be_given, next_bounds, asked_most}
 use Rattle.pgs_match.specs.Frontier.{kept_bounds, led_on, on_most, AreAllOf, is_path, end_var, leads_to_one}
 use Rattle.pgs_match.specs.Plans.{bound_by}
 use Rattle.pgs_match.specs.Routes.{whole, routes, way_most, with_tuple}
@@ -63,22 +62,12 @@ tuple_by g b c one other first second (expr ∷ exprs) reads =
     ap (option_and_then (λ part. option_map (λ rest. part ∷ rest) (tuple_at g exprs b))) (part_by g b c expr same)
     ∙ ap (λ rest_of. option_and_then (λ part. option_map (λ rest. part ∷ rest) rest_of) (part_at g c expr)) (tuple_by g b c one other first second exprs parts.1)
 
--- ---- lists
-
-fold_map : {X Y S : Type 0} (f : S → Y → S) (h : X → Y) (xs : List X) (start : S) → fold (λ so_far x. f so_far (h x)) start xs ≡ fold f start (map h xs)
-fold_map f h [] start = refl
-fold_map f h (x ∷ xs) start = fold_map f h xs (f start (h x))
-
 -- ---- the ends of routes
 
 end_below : (ways : List Step) (at : ℕ) → at < 20 → list_all (λ step. nat_lt (bound_by step) 20) ways ≡ true → end_var at ways < 20
 end_below [] at below all = below
 end_below (step ∷ ways) at below all =
     let parts = and_parts (nat_lt (bound_by step) 20) _ all in end_below ways (bound_by step) (ltb-true (bound_by step) 20 parts.0) parts.1
-
-not_or : (a b : Bool) → (a || b) ≡ false → (a ≡ false) × (b ≡ false)
-not_or true b h = absurd (true≢false h)
-not_or false b h = (refl, h)
 
 module _ (resolved : Resolved) (g : Graph) (atoms : List Atom) (off : List Step) (start : ℕ) (first : Bound) (test : List (Option Bound) → Bool) (by_end : Bound → Bool) where
   -- a test goes by the bindings of two variables
@@ -100,7 +89,7 @@ module _ (resolved : Resolved) (g : Graph) (atoms : List Atom) (off : List Step)
   routes_ends [] at b x size begin here path none below goes = ap (λ t. t || false) (goes b x begin here)
   routes_ends (Along edge node forward ∷ ways) at b x size begin here path none below goes =
       let steps = and_parts (node == at) _ path in
-      let other = not_or (edge == start) _ none in
+      let other = or_parts (edge == start) _ none in
       let small = and_parts (nat_lt edge 20) _ below in
       let inside : edge < length b = let less = ltb-true edge 20 small.0 in omega (arith, less, size) in
       let from : bound_at b node ≡ Some x = ap (bound_at b) (eqb-true node at steps.0) ∙ here in
@@ -120,7 +109,7 @@ module _ (resolved : Resolved) (g : Graph) (atoms : List Atom) (off : List Step)
       ∙ sym (any_flat_map by_end (led_on resolved g atoms off ways) (kept_bounds resolved g atoms off (Along edge node forward) x))
   routes_ends (End edge node source ∷ ways) at b x size begin here path none below goes =
       let steps = and_parts (edge == at) _ path in
-      let other = not_or (node == start) _ none in
+      let other = or_parts (node == start) _ none in
       let small = and_parts (nat_lt node 20) _ below in
       let inside : node < length b = let less = ltb-true node 20 small.0 in omega (arith, less, size) in
       let from : bound_at b edge ≡ Some x = ap (bound_at b) (eqb-true edge at steps.0) ∙ here in
@@ -200,7 +189,7 @@ pub ends_are_routes : (resolved : Resolved) (g : Graph) (atoms : List Atom) (off
     fold (λ so_far end. with_tuple g exprs so_far (with_bound (with_bound nothing_bound var bound) (end_var var ways) end)) [] found
     ≡ fold (with_tuple g exprs) [] (routes resolved g atoms off ways (with_bound nothing_bound var bound))
 ends_are_routes resolved g atoms off exprs ways var bound found below all leads same =
-    fold_map (with_tuple g exprs) (both_bound var bound (end_var var ways)) found [] ∙ ends_are resolved g atoms off exprs ways var bound found (ltb-true var 20 below) all leads same
+    sym (fold-map (with_tuple g exprs) (both_bound var bound (end_var var ways)) [] found) ∙ ends_are resolved g atoms off exprs ways var bound found (ltb-true var 20 below) all leads same
 
 -- ---- how many look-ups they take
 
