@@ -58,10 +58,10 @@ once_parts wanted (step ∷ plan) once = by (is_on_way wanted (on_way wanted pla
 ends_from : (whole plan : List Step) → IsOnce plan → ((var : ℕ) → is_bound_in plan var ≡ true → behind var whole ≡ behind var plan) → EndsIn whole plan
 ends_from whole [] once same = tt {0}
 ends_from whole (step ∷ plan) once same = (
-    same (bound_by step) (or_left _ _ (eq-eqb (bound_by step) (bound_by step) refl)) ∙ ap (λ b. cond b plan (behind (bound_by step) plan)) (eq-eqb (bound_by step) (bound_by step) refl),
-    once.0,
-    ends_from whole plan once.1 (λ var has. same var (or_right _ _ has) ∙ by var (bound_by step == var) refl has),
-  )
+  same (bound_by step) (or_left _ _ (eq-eqb (bound_by step) (bound_by step) refl)) ∙ ap (λ b. cond b plan (behind (bound_by step) plan)) (eq-eqb (bound_by step) (bound_by step) refl),
+  once.0,
+  ends_from whole plan once.1 (λ var has. same var (or_right _ _ has) ∙ by var (bound_by step == var) refl has),
+)
   where
     by : (var : ℕ) (b : Bool) → (bound_by step == var) ≡ b → is_bound_in plan var ≡ true → behind var (step ∷ plan) ≡ behind var plan
     by var true is has = absurd (true≢false (sym has ∙ ap (is_bound_in plan) (sym (eqb-true (bound_by step) var is)) ∙ once.0))
