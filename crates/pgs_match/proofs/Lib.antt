@@ -49,3 +49,5 @@ pub mod Noting
 pub mod Ending
 pub mod Remembered
 pub mod Learning
+pub mod FrontierPlans
+pub mod FrontierRoutes

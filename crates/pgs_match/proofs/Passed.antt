@@ -59,7 +59,7 @@ pub among : {X : Type 0} (xs ys : List X) → ((count : X → ℕ) → sum_by co
 among xs ys fewer test some = uncounted test ys (let one = counted test xs some in let less = fewer (λ x. one_if (test x)) in omega (arith, one, less))
 
 -- what each test that an item of the one passes is passed by
-within : {X : Type 0} (xs ys : List X) → ((x : X) → Contains xs x → Contains ys x) → (test : X → Bool) → list_any test xs ≡ true → list_any test ys ≡ true
+pub within : {X : Type 0} (xs ys : List X) → ((x : X) → Contains xs x → Contains ys x) → (test : X → Bool) → list_any test xs ≡ true → list_any test ys ≡ true
 within xs ys all test some =
     let it = Any-from_list_any test xs some in
     let own = all it.1 (it.0, it.2, it.3) in
