@@ -49,3 +49,4 @@ pub mod Noting
 pub mod Ending
 pub mod Remembered
 pub mod Learning
+pub mod Kept
