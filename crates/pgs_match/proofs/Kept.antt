@@ -5,7 +5,8 @@ use Rattle.std.specs.Option.{option_map_or}
 use Rattle.std.specs.List.{Contains}
 use Rattle.std.proofs.Math.Nat.{mul-le-mul_right}
 use Rattle.pgs_base.specs.declared.element.NodeId.{NodeId}
-use Rattle.pgs_base.specs.declared.element.Elem.TheVariants.{Node}
+use Rattle.pgs_base.specs.declared.element.EdgeId.{EdgeId}
+use Rattle.pgs_base.specs.declared.element.Elem.TheVariants.{Node, Edge}
 use Rattle.pgs_base.specs.Graph.{Graph}
 use Rattle.pgs_graph.specs.Reads.{degree_of}
 use Rattle.pgs_syntax.specs.declared.pattern.Atom.{Atom}
@@ -19,11 +20,11 @@ use Rattle.pgs_match.specs.declared.notes.Notes.{Notes}
 use Rattle.pgs_match.specs.declared.notes.Hop.{Hop}
 use Rattle.pgs_match.specs.declared.notes.Link.{Link}
 use Rattle.pgs_match.specs.declared.notes.Links.{Links}
-use Rattle.pgs_match.specs.Answers.{noted, is_same_place, is_given, AreRight, unnoted, IsPaid, IsPrice, own_most}
+use Rattle.pgs_match.specs.Answers.{noted, is_same_place, is_given, AreRight, IsAmong, unnoted, IsPaid, IsPrice, own_most}
 use Rattle.pgs_match.specs.Frontier.{hop_bounds, at_nodes, linked, AreAllOf, AreNoted, IsPaidOn, StayFull}
 use Rattle.pgs_match.specs.Spread.{stand_at}
-use Rattle.pgs_match.specs.Tests.{admitted_node}
-use Rattle.pgs_match.proofs.Noting.{IsNote, IsSame, same_var, same_id, was_room, node_price, node_bound, unnoted_less, unnoted_drops}
+use Rattle.pgs_match.specs.Tests.{admitted_node, admitted_edge}
+use Rattle.pgs_match.proofs.Noting.{IsNote, IsSame, same_var, same_id, was_room, node_price, node_bound, edge_among, edge_own, unnoted_less, unnoted_drops}
 
 -- ---- what is full stays so
 
@@ -151,3 +152,14 @@ module _ (resolved : Resolved) (g : Graph) (atoms : List Atom) (pairs : List Sta
           let own = subst (λ y. own_most g off y ≤ 440 * (degree_of g id + 2)) at (node_price (length off) (degree_of g id) 440 (few_price off few)) in
           let drop = unnoted_drops g var id answer mid.on on (note room) new pairs (has (ap is_some (sym is))) in
           omega (arith, cost, own, drop)
+
+-- an edge takes three look-ups, and one for each step off the way
+pub paid_edge : (resolved : Resolved) (g : Graph) (atoms : List Atom) (pairs : List Stand) (off : List Step) (var : ℕ) (id : EdgeId) →
+    (is_some (admitted_edge resolved g atoms var id) ≡ true → Contains pairs (stand_at var (Edge id))) → (admitted : Option Bound) → admitted ≡ admitted_edge resolved g atoms var id →
+    (x : Bound) → admitted ≡ Some x → (notes : Notes) (answers : Answers) (start tried now : ℕ) → tried ≤ start + 3 →
+    (IsAmong g pairs var x → IsPaid g 440 pairs notes.off answers tried now (own_most g off x)) → IsPaidOn g pairs notes (with_off notes answers) start now (3 + length off)
+paid_edge resolved g atoms pairs off var id has admitted same x is notes answers start tried now few paid =
+    let one = paid_off g pairs notes answers tried now (own_most g off x) (paid (edge_among resolved g atoms var pairs id has admitted same x is)) in
+    let own = subst (λ o. option_map_or (own_most g off) o 0 ≤ length off) is (edge_own resolved g atoms var off id admitted same) in
+    paid_most g pairs notes (with_off notes answers) start now (3 + own_most g off x) (3 + length off) (omega (arith, own))
+    (paid_before g pairs notes (with_off notes answers) start tried now 3 (own_most g off x) few one)
