@@ -50,3 +50,4 @@ pub mod Ending
 pub mod Remembered
 pub mod Learning
 pub mod Kept
+pub mod Apart
