@@ -51,3 +51,5 @@ pub mod Remembered
 pub mod Learning
 pub mod FrontierPlans
 pub mod FrontierRoutes
+pub mod Kept
+pub mod Apart

@@ -10,7 +10,7 @@ ghost use Rattle.pgs_match.specs.declared.stand.Stand.{Stand};
 ghost use Rattle.pgs_match.specs.Answers.{EndsIn, IsAmong, IsClosed};
 ghost use Rattle.pgs_match.specs.Bounds.{with_bound, nothing_bound};
 ghost use Rattle.pgs_match.specs.Branches.{asked_most};
-ghost use Rattle.pgs_match.specs.Frontier.{leads_to_one, unasked, AreNoted, IsPaidOn};
+ghost use Rattle.pgs_match.specs.Frontier.{hops_most, leads_to_one, unasked, AreNoted, IsPaidOn};
 ghost use Rattle.pgs_match.specs.Plans.{bound_by};
 ghost use Rattle.pgs_match.specs.Routes.{whole, routes, with_tuple, way_most};
 ghost use Rattle.pgs_match.specs.Spread.{elem_degree};
@@ -46,27 +46,6 @@ impl<'a, G: GraphRead> Way<'a, G> {
         Ok(())
     }
 
-    // A search along the way, of the steps off it with what was noted.
-    fn frontier(&self) -> Frontier<'a, G>
-        ensures graph { result.asking.search.graph ≡ self.now.gathering.search.graph }
-        ensures compiled { result.asking.search.compiled ≡ self.now.gathering.search.compiled }
-        ensures atoms { result.asking.search.atoms ≡ self.now.gathering.search.atoms }
-        ensures off { result.asking.whole ≡ self.now.off }
-    {
-        let search = &self.gathering.search;
-        Frontier {
-            asking: Asking {
-                search: Search {
-                    graph: search.graph,
-                    compiled: search.compiled,
-                    atoms: search.atoms,
-                },
-                whole: self.off,
-            },
-            alloc: self.gathering.alloc,
-        }
-    }
-
     // The tuples from what a variable is bound to.
     fn tuples_from<L: Ledger>(
         &self,
@@ -95,24 +74,32 @@ impl<'a, G: GraphRead> Way<'a, G> {
             IsClosed self.now.gathering.search.compiled.now (G.meaning self.now.gathering.search.graph.now) self.now.gathering.search.atoms.now pairs on.now →
             IsClosed self.now.gathering.search.compiled.now (G.meaning self.now.gathering.search.graph.now) self.now.gathering.search.atoms.now pairs self.now.off.now →
             OnOk result (IsPaidOn (G.meaning self.now.gathering.search.graph.now) pairs notes.old notes.new steps.old steps.new
-            (480 * sum_by (λ (stand : Stand). elem_degree (G.meaning self.now.gathering.search.graph.now) stand.elem + 2) pairs)) }
+            (456 * sum_by (λ (stand : Stand). elem_degree (G.meaning self.now.gathering.search.graph.now) stand.elem + 2) pairs
+            + hops_most (G.meaning self.now.gathering.search.graph.now) (length self.now.off.now) on.now pairs)) }
     {
-        let frontier = self.frontier();
-        let mut tuples = TupleSet::new(self.gathering.alloc);
-        if frontier
+        let search = &self.gathering.search;
+        let frontier = Frontier {
+            asking: Asking {
+                search: Search {
+                    graph: search.graph,
+                    compiled: search.compiled,
+                    atoms: search.atoms,
+                },
+                whole: self.off,
+            },
+            alloc: self.gathering.alloc,
+        };
+        if !frontier
             .asking
             .given(self.off, var, bound, &mut notes.off, steps)
         {
-            let ends = frontier.lead_from(on, bound, notes, steps)?;
-            let bindings = Bindings::alone(var, bound);
-            self.gather_ends(
-                end_var(var, on),
-                &bindings,
-                ends.as_slice(),
-                &mut tuples,
-                steps,
-            )?;
+            return Ok(TupleSet::new(self.gathering.alloc));
         }
+        let ends = frontier.lead_from(on, bound, notes, steps)?;
+        let mut tuples = TupleSet::new(self.gathering.alloc);
+        let bindings = Bindings::alone(var, bound);
+        let last = end_var(var, on);
+        self.gather_ends(last, &bindings, ends.as_slice(), &mut tuples, steps)?;
         Ok(tuples)
     }
 
@@ -149,12 +136,16 @@ impl<'a, G: GraphRead> Way<'a, G> {
             IsClosed self.now.gathering.search.compiled.now (G.meaning self.now.gathering.search.graph.now) self.now.gathering.search.atoms.now pairs self.now.off.now →
             OnOk result (steps.new + 440 * unasked (G.meaning self.now.gathering.search.graph.now) notes.new pairs
             ≤ steps.old + 440 * unasked (G.meaning self.now.gathering.search.graph.now) notes.old pairs
-            + 480 * sum_by (λ (stand : Stand). elem_degree (G.meaning self.now.gathering.search.graph.now) stand.elem + 2) pairs) }
+            + (456 * sum_by (λ (stand : Stand). elem_degree (G.meaning self.now.gathering.search.graph.now) stand.elem + 2) pairs
+            + hops_most (G.meaning self.now.gathering.search.graph.now) (length self.now.off.now) on.now pairs)) }
     {
         match admitted {
             Some(bound) => {
                 let tuples = self.tuples_from(on, var, bound, notes, steps)?;
-                if notes.on.is_full || notes.off.is_full {
+                if notes.on.is_full {
+                    return Err(Memory);
+                }
+                if notes.off.is_full {
                     return Err(Memory);
                 }
                 Ok(tuples)
