@@ -51,5 +51,6 @@ pub mod Remembered
 pub mod Learning
 pub mod FrontierPlans
 pub mod FrontierRoutes
+pub mod Behind
 pub mod Kept
 pub mod Apart
