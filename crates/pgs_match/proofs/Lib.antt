@@ -49,3 +49,6 @@ pub mod Noting
 pub mod Ending
 pub mod Remembered
 pub mod Learning
+pub mod Behind
+pub mod Kept
+pub mod Apart

@@ -114,7 +114,7 @@ all_stay x (z ∷ xs) ys above all =
     and_from _ _ (stays x z ys first.0 here.0) (all_stay x xs ys first.1 here.1)
 
 -- whatever is counted of each, the sum over elements in order is no greater than over others among which all of them are
-sum_among : (f : Elem → ℕ) (xs ys : List Elem) → ascends elem_cmp xs ≡ true → list_all (λ x. list_any (same_elem x) ys) xs ≡ true → sum_by f xs ≤ sum_by f ys
+pub sum_among : (f : Elem → ℕ) (xs ys : List Elem) → ascends elem_cmp xs ≡ true → list_all (λ x. list_any (same_elem x) ys) xs ≡ true → sum_by f xs ≤ sum_by f ys
 sum_among f [] ys rising all = omega arith
 sum_among f (x ∷ xs) ys rising all =
     let order = and_parts (list_all (λ later. is_lt (elem_cmp x later)) xs) _ rising in
