@@ -1,9 +1,12 @@
 -- The nodes behind a node on a way to one variable, edge by edge: which they are, and what it takes to come to them.
-use Rattle.std.proofs.Common.{◌≡◌, ℕ, zero, suc, ◌+◌, ◌*◌, ◌≤◌, ◌<◌, Bool, true, false, cond, List, [], ◌∷◌, ◌++◌, map, filter, flat_map, length, take, get_or, slice_get, Option, Some, None, Result, Ok, Err, OnOk, refl, sym, ◌∙◌, ap, subst, true≢false, append-nil, arith}
+use Rattle.std.proofs.Common.{◌≡◌, ℕ, zero, suc, ◌+◌, ◌*◌, ◌≤◌, ◌<◌, Bool, true, false, ◌&&◌, ◌==◌, cond, List, [], ◌∷◌, ◌++◌, map, filter, flat_map, length, Option, Some, None, Result, Ok, Err, OnOk, refl, sym, ◌∙◌, ap, subst, append-nil, arith}
 use Rattle.std.specs.Prelude.{filter_map, option_and_then, is_some}
 use Rattle.std.specs.Option.{option_map_or}
 use Rattle.std.specs.List.{Contains, cons_option, sum_by, slice_index_or}
+use Rattle.std.specs.Cmp.{booleans_Decides}
+use Rattle.std.proofs.Math.Bool.{beq}
 use Rattle.std.proofs.Math.Nat.{mul-le-mul_right}
+use Rattle.std.proofs.lemmas.Bool.{and_parts, eqb-true}
 use Rattle.std.proofs.lemmas.List.Sums.{sum_by-cons}
 use Rattle.std.proofs.lemmas.Grind.{flat_map-append}
 use Rattle.pgs_base.specs.declared.element.NodeId.{NodeId}
@@ -22,13 +25,11 @@ use Rattle.pgs_match.specs.declared.bindings.Bound.TheVariants as bounds
 use Rattle.pgs_match.specs.Answers.{HasAhead, IsAmong}
 use Rattle.pgs_match.specs.Bounds.{end_at}
 use Rattle.pgs_match.specs.Branches.{can_be_given, asked_most}
-use Rattle.pgs_match.specs.Frontier.{kept_bounds, led_on, on_most, hop_steps, hop_bounds, at_nodes, hop_most, AreAllOf, IsPaidOn, StayFull, unasked}
+use Rattle.pgs_match.specs.Frontier.{kept_bounds, led_on, hop_bounds, at_nodes, AreAllOf, IsPaidOn, StayFull}
 use Rattle.pgs_match.specs.Routes.{whole}
 use Rattle.pgs_match.specs.Search.{edges_along}
 use Rattle.pgs_match.specs.Spread.{stand_at}
 use Rattle.pgs_match.specs.Tests.{admitted_node, admitted_edge}
-use Rattle.pgs_match.proofs.Along.{at_place, cost_more, cost_all}
-use Rattle.pgs_match.proofs.BranchCosts.{listed_few}
 use Rattle.pgs_match.proofs.Noting.{was_room, edge_among}
 
 -- ---- lists
@@ -68,6 +69,18 @@ each_alone (x ∷ xs) = ap (λ ys. x ∷ ys) (each_alone xs)
 pub on_ok : {T E : Type 0} (r : Result T E) (P : Type 0) → P → OnOk r P
 on_ok (Ok x) P p = p
 on_ok (Err e) P p = tt
+
+-- what is compared field by field
+pub same_hop : (a b : Hop) → (a.edge == b.edge && (beq a.forward b.forward && (a.node == b.node && beq a.source b.source))) ≡ true → a ≡ b
+same_hop a b same =
+    let edges = and_parts (a.edge == b.edge) _ same in
+    let forwards = and_parts (beq a.forward b.forward) _ edges.1 in
+    let nodes = and_parts (a.node == b.node) _ forwards.1 in
+    let edge = eqb-true a.edge b.edge edges.0 in
+    let forward = (booleans_Decides a.forward b.forward).0 forwards.0 in
+    let node = eqb-true a.node b.node nodes.0 in
+    let source = (booleans_Decides a.source b.source).0 nodes.1 in
+    λ i. record { edge = edge i; forward = forward i; node = node i; source = source i }
 
 -- ---- the edges of a node that are on the way
 
@@ -210,12 +223,15 @@ bounds_among xs ys all x it =
 pub all_in_order : (ends ids : List NodeId) (all : List Bound) → at_nodes ends ≡ all → ((id : NodeId) → Contains ends id → Contains ids id) → ((id : NodeId) → Contains ids id → Contains ends id) →
     ((count : NodeId → ℕ) → sum_by count ids ≤ sum_by count ends) → AreAllOf all (at_nodes ids)
 all_in_order ends ids all is kept none_other few =
-    subst (λ xs. AreAllOf xs (at_nodes ids)) is
-    (bounds_among ends ids kept, bounds_among ids ends none_other, λ count.
-    let less = few (λ id. count (bounds.Node id)) in
-    let one = sum_map count bounds.Node ids in
-    let other = sum_map count bounds.Node ends in
-    omega (arith, less, one, other))
+    subst (λ xs. AreAllOf xs (at_nodes ids)) is (
+      bounds_among ends ids kept,
+      bounds_among ids ends none_other,
+      λ count.
+          let less = few (λ id. count (bounds.Node id)) in
+          let one = sum_map count bounds.Node ids in
+          let other = sum_map count bounds.Node ends in
+          omega (arith, less, one, other),
+    )
 
 -- ---- what is paid
 

@@ -1,4 +1,4 @@
-use Rattle.std.proofs.Common.{◌≡◌, ◌+◌, ◌≤◌, ◌++◌, Option, Some, None, Vec, Global, length, flat_map, sym, ap, ◌∙◌, subst, arith}
+use Rattle.std.proofs.Common.{◌≡◌, ◌+◌, ◌≤◌, ◌++◌, Some, Vec, Global, length, flat_map, sym, ap, ◌∙◌, arith}
 use Rattle.std.specs.List.{Contains}
 use Rattle.pgs_match.specs.declared.bindings.Bound.{Bound}
 use Rattle.pgs_match.specs.declared.bindings.Bound.TheVariants as bounds
@@ -8,7 +8,7 @@ use Rattle.pgs_match.proofs.BranchCosts.{listed_few}
 use Rattle.pgs_match.proofs.Few.{few_along}
 use Rattle.pgs_match.proofs.Kept.{full_both}
 use Rattle.pgs_match.proofs.Leading.{flat_more}
-use Rattle.pgs_match.proofs.Behind.{edge_on, edges_on, edge_more, edge_not, edge_most, edge_cost, edge_in, edges_of_node, paid_edge_on, paid_edges}
+use Rattle.pgs_match.proofs.Behind.{edges_on, edge_more, edge_not, edge_most, edge_cost, edge_in, edges_of_node, paid_edge_on, paid_edges}
 use Rattle.pgs_match.proofs.frontier.Frontier.add_edges_kept.Goals.{in-Some-edge_kept+in_ok-push-in-Some, in_default}
 use Rattle.pgs_match.proofs.frontier.Frontier.add_edges_kept.Goals as goal
 

@@ -1,4 +1,4 @@
-use Rattle.std.proofs.Common.{◌≡◌, ◌+◌, ◌≤◌, true, false, length, Option, Some, None, refl, sym, ap, ◌∙◌, subst, arith}
+use Rattle.std.proofs.Common.{◌≡◌, ◌+◌, false, Option, Some, None, refl, sym, ap, ◌∙◌, subst, arith}
 use Rattle.std.specs.Option.{option_map_or}
 use Rattle.pgs_match.specs.declared.answers.Answers.{Answers}
 use Rattle.pgs_match.specs.declared.bindings.Bound.{Bound}
@@ -6,8 +6,8 @@ use Rattle.pgs_match.specs.declared.notes.Notes.{Notes}
 use Rattle.pgs_match.specs.Answers.{is_given, noted, own_most}
 use Rattle.pgs_match.specs.Branches.{can_be_given}
 use Rattle.pgs_match.specs.Frontier.{AreNoted, IsPaidOn}
-use Rattle.pgs_match.proofs.Noting.{IsNote, node_among}
-use Rattle.pgs_match.proofs.Kept.{with_off, noted_on, noted_off, paid_off, paid_kept, paid_itself, few_price}
+use Rattle.pgs_match.proofs.Noting.{node_among}
+use Rattle.pgs_match.proofs.Kept.{noted_on, noted_off, paid_off, paid_kept, paid_itself, few_price}
 use Rattle.pgs_match.proofs.frontier.Frontier.is_kept.Goals as goal
 use Rattle.pgs_match.proofs.frontier.Frontier.is_kept.Goals.{in-Some-admit_node, in-None-admit_node}
 
@@ -22,12 +22,12 @@ returns-after-admit_node-clause-right g c =
     let value = c.admit_node.ensures.value in
     let given : answer ≡ is_given resolved graph atoms off c.args.var c.args.id =
     elim c.match-admit_node.branch [
-      in-Some-admit_node w ↦ w.answer-is ∙ w.given-answer.ensures.found ∙ ap (λ o. option_map_or (can_be_given resolved graph atoms off c.args.var) o false) w.in-Some-admit_node.ensures.value
+      | in-Some-admit_node w ↦ w.answer-is ∙ w.given-answer.ensures.found ∙ ap (λ o. option_map_or (can_be_given resolved graph atoms off c.args.var) o false) w.in-Some-admit_node.ensures.value
       | in-None-admit_node w ↦ w.answer-is ∙ ap (λ o. option_map_or (can_be_given resolved graph atoms off c.args.var) o false) w.in-None-admit_node.ensures.value
     ] in
     let right : AreNoted resolved graph atoms off c.match-admit_node.notes =
     elim c.match-admit_node.branch [
-      in-Some-admit_node w ↦ subst (AreNoted resolved graph atoms off) (sym w.notes-is) (noted_off resolved graph atoms off c.args.notes.now w.given-answer.new.answers c.requires.right w.given-answer.ensures.right)
+      | in-Some-admit_node w ↦ subst (AreNoted resolved graph atoms off) (sym w.notes-is) (noted_off resolved graph atoms off c.args.notes.now w.given-answer.new.answers c.requires.right w.given-answer.ensures.right)
       | in-None-admit_node w ↦ subst (AreNoted resolved graph atoms off) (sym w.notes-is) c.requires.right
     ] in
     noted_on resolved graph atoms off c.args.var c.args.id answer c.match-admit_node.notes c.note.new.self c.note.ensures.noted c.note.ensures.full given right
@@ -46,13 +46,13 @@ returns-after-admit_node-clause-once g c =
     λ pairs few closed has.
     let same : mid.on ≡ before.on =
     elim c.match-admit_node.branch [
-      in-Some-admit_node w ↦ ap (λ (n : Notes). n.on) w.notes-is
+      | in-Some-admit_node w ↦ ap (λ (n : Notes). n.on) w.notes-is
       | in-None-admit_node w ↦ ap (λ (n : Notes). n.on) w.notes-is
     ] in
     let new : noted mid.on c.args.var c.args.id ≡ None = ap (λ (a : Answers). noted a c.args.var c.args.id) same ∙ sym c.in-None.ensures in
     let paid : IsPaidOn graph pairs before mid tried now (option_map_or (own_most graph off) c.admit_node.result 0) =
     elim c.match-admit_node.branch [
-      in-Some-admit_node w ↦
+      | in-Some-admit_node w ↦
           let among = node_among resolved graph atoms c.args.var pairs c.args.id has (Some w.in-Some-admit_node.bound) w.in-Some-admit_node.ensures.value w.in-Some-admit_node.bound refl in
           let one = paid_off graph pairs before w.given-answer.new.answers tried w.given-answer.new.steps (own_most graph off w.in-Some-admit_node.bound)
           (w.given-answer.ensures.once pairs 440 (few_price off few) closed among) in
