@@ -49,6 +49,7 @@ pub mod Noting
 pub mod Ending
 pub mod Remembered
 pub mod Learning
+pub mod Frontiers
 pub mod Behind
 pub mod Kept
 pub mod Apart
