@@ -50,6 +50,7 @@ pub mod Ending
 pub mod Remembered
 pub mod Learning
 pub mod Frontiers
+pub mod FrontierStarts
 pub mod Behind
 pub mod Kept
 pub mod Apart
