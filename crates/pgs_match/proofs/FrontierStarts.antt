@@ -1,31 +1,29 @@
 -- To what the steps of a way lead from what its first variable is bound to, and how many look-ups that takes.
-use Rattle.std.proofs.Common.{◌≡◌, ℕ, ◌+◌, ◌≤◌, Bool, true, false, ◌&&◌, ◌==◌, ⊎_elim, List, [], ◌∷◌, Option, Some, None, refl, sym, ◌∙◌, ap, subst, true≢false, arith}
+use Rattle.std.proofs.Common.{◌≡◌, ℕ, ◌+◌, Bool, true, false, ◌==◌, ⊎_elim, List, [], ◌∷◌, Option, Some, None, refl, sym, ap, subst, true≢false, arith}
 use Rattle.std.specs.Prelude.{is_some}
 use Rattle.std.specs.Option.{option_map_or}
-use Rattle.std.specs.List.{Contains, flat_map, sum_by}
+use Rattle.std.specs.List.{Contains, flat_map}
 use Rattle.std.proofs.lemmas.Bool.{and_parts, eqb-true}
 use Rattle.std.proofs.lemmas.List.{append-nil}
-use Rattle.std.proofs.lemmas.List.Sums.{get_or-le-sum_by}
 use Rattle.pgs_base.specs.declared.element.NodeId.{NodeId}
-use Rattle.pgs_base.specs.declared.element.EdgeId.{EdgeId}
 use Rattle.pgs_base.specs.declared.element.Elem.TheVariants.{Node}
 use Rattle.pgs_base.specs.Graph.{Graph}
 use Rattle.pgs_syntax.specs.declared.pattern.Atom.{Atom}
 use Rattle.pgs_syntax.specs.declared.resolved.Resolved.{Resolved}
 use Rattle.pgs_syntax.proofs.Members.{contains_none, contains_cases}
 use Rattle.pgs_match.specs.declared.step.Step.{Step}
-use Rattle.pgs_match.specs.declared.step.Step.TheVariants.{Along, End}
+use Rattle.pgs_match.specs.declared.step.Step.TheVariants.{End}
 use Rattle.pgs_match.specs.declared.stand.Stand.{Stand}
 use Rattle.pgs_match.specs.declared.bindings.Bound.{Bound}
 use Rattle.pgs_match.specs.declared.bindings.Bound.TheVariants as bounds
 use Rattle.pgs_match.specs.declared.notes.Notes.{Notes}
-use Rattle.pgs_match.specs.Answers.{is_given, HasAhead, IsAmong, IsClosed}
-use Rattle.pgs_match.specs.Bounds.{elem_of, end_at}
-use Rattle.pgs_match.specs.Branches.{can_be_given, asked_most}
-use Rattle.pgs_match.specs.Frontier.{led_on, on_most, at_nodes, hops_most, is_path, AreAllOf, HasWay, IsPaidOn, StayFull}
-use Rattle.pgs_match.specs.Spread.{stand_at, elem_degree}
+use Rattle.pgs_match.specs.Answers.{is_given, IsAmong, IsClosed}
+use Rattle.pgs_match.specs.Bounds.{end_at}
+use Rattle.pgs_match.specs.Branches.{can_be_given}
+use Rattle.pgs_match.specs.Frontier.{led_on, at_nodes, hops_most, is_path, AreAllOf, HasWay, IsPaidOn, StayFull}
+use Rattle.pgs_match.specs.Spread.{stand_at}
 use Rattle.pgs_match.specs.Tests.{admitted_node}
-use Rattle.pgs_match.proofs.Frontiers.{all_is, paid_then, paid_less, no_end, end_leads, end_takes, end_stops, end_tried, end_has}
+use Rattle.pgs_match.proofs.Frontiers.{paid_then, paid_less, end_leads, end_has}
 
 module _ (resolved : Resolved) (g : Graph) (atoms : List Atom) (off : List Step) where
   one_here : (var : ℕ) (id : NodeId) (pairs : List Stand) → Contains pairs (stand_at var (Node id)) → (other : NodeId) → Contains (id ∷ []) other → Contains pairs (stand_at var (Node other))
@@ -39,33 +37,12 @@ module _ (resolved : Resolved) (g : Graph) (atoms : List Atom) (off : List Step)
       by None can = absurd (true≢false (sym can))
       by (Some x) can = refl
 
-  pub one_few : (var : ℕ) (pairs : List Stand) (bound : Bound) → IsAmong g pairs var bound → 1 ≤ sum_by (λ (stand : Stand). elem_degree g stand.elem + 2) pairs
-  one_few var pairs bound among =
-      let here = among.0 in
-      let least = get_or-le-sum_by (λ (stand : Stand). elem_degree g stand.elem + 2) pairs here.0 (stand_at var (elem_of bound)) here.1 in
-      omega (arith, least)
-
-  -- where no step is left, and where none goes on from an edge
-  pub last_one : (ways : List Step) (bound : Bound) → ways ≡ [] → (ends : List Bound) → ends ≡ bound ∷ [] → AreAllOf (led_on resolved g atoms off ways bound) ends
-  last_one ways bound none ends same =
-      all_is (led_on resolved g atoms off ways bound) ends (same ∙ ap (λ w. led_on resolved g atoms off w bound) (sym none))
-
-  pub none_along : (ways rest : List Step) (edge node : ℕ) (forward : Bool) (bound : Bound) (id : EdgeId) (source target : NodeId) → ways ≡ Along edge node forward ∷ rest →
-      bound ≡ bounds.Edge id source target → (ends : List Bound) → ends ≡ [] → AreAllOf (led_on resolved g atoms off ways bound) ends
-  none_along ways rest edge node forward bound id source target first is ends empty =
-      let none : led_on resolved g atoms off (Along edge node forward ∷ rest) bound ≡ [] =
-          ap (led_on resolved g atoms off (Along edge node forward ∷ rest)) is in
-      all_is (led_on resolved g atoms off ways bound) ends (empty ∙ sym none ∙ ap (λ w. led_on resolved g atoms off w bound) (sym first))
-
   -- from a node
   module _ (ways : List Step) (bound : Bound) (id : NodeId) (is : bound ≡ bounds.Node id) where
     pub node_all : (ends : List Bound) → AreAllOf (flat_map (led_on resolved g atoms off ways) (at_nodes (id ∷ []))) ends → AreAllOf (led_on resolved g atoms off ways bound) ends
     node_all ends all =
         subst (λ b. AreAllOf (led_on resolved g atoms off ways b) ends) (sym is)
         (subst (λ l. AreAllOf l ends) (append-nil (led_on resolved g atoms off ways (bounds.Node id))) all)
-
-    pub node_cost : (start now : ℕ) → now ≤ start + sum_by (on_most resolved g atoms off 0 ways) (at_nodes (id ∷ [])) → now ≤ start + on_most resolved g atoms off 0 ways bound
-    node_cost start now cost = subst (λ b. now ≤ start + on_most resolved g atoms off 0 ways b) (sym is) (omega (arith, cost))
 
     pub node_way : (var : ℕ) (pairs : List Stand) → IsAmong g pairs var bound → IsClosed resolved g atoms pairs ways → IsClosed resolved g atoms pairs off →
         HasWay resolved g atoms off ways var (id ∷ []) pairs
@@ -77,34 +54,12 @@ module _ (resolved : Resolved) (g : Graph) (atoms : List Atom) (off : List Step)
       paid_less g pairs before after start now (hops_most g count ways pairs) (1 + hops_most g count ways pairs) paid (omega arith)
 
   -- from an edge
-  pub stop_all : (ways rest : List Step) (edge node : ℕ) (source : Bool) (bound : Bound) → ways ≡ End edge node source ∷ rest → None ≡ end_at source (Some bound) → (ends : List Bound) → ends ≡ [] →
-      AreAllOf (led_on resolved g atoms off ways bound) ends
-  stop_all ways rest edge node source bound first none ends empty =
-      all_is (led_on resolved g atoms off ways bound) ends
-      (empty ∙ sym (no_end resolved g atoms off rest edge node source bound none) ∙ ap (λ w. led_on resolved g atoms off w bound) (sym first))
-
   module _ (ways rest : List Step) (edge node : ℕ) (source : Bool) (bound : Bound) (id : NodeId) (first : ways ≡ End edge node source ∷ rest) (at : Some id ≡ end_at source (Some bound)) where
     pub start_all : is_given resolved g atoms off node id ≡ true → (ends : List Bound) → AreAllOf (flat_map (led_on resolved g atoms off rest) (at_nodes (id ∷ []))) ends →
         AreAllOf (led_on resolved g atoms off ways bound) ends
     start_all given ends all =
         subst (λ w. AreAllOf (led_on resolved g atoms off w bound) ends) (sym first)
         (subst (λ l. AreAllOf l ends) (sym (end_leads resolved g atoms off rest edge node source bound id at given)) all)
-
-    pub start_cost : is_given resolved g atoms off node id ≡ true → (start mid now : ℕ) →
-        mid ≤ start + (1 + option_map_or (asked_most resolved g atoms off node) (admitted_node resolved g atoms node id) 0) →
-        now ≤ mid + sum_by (on_most resolved g atoms off 0 rest) (at_nodes (id ∷ [])) → now ≤ start + on_most resolved g atoms off 0 ways bound
-    start_cost given start mid now early late =
-        subst (λ w. now ≤ start + on_most resolved g atoms off 0 w bound) (sym first) (end_takes resolved g atoms off rest edge node source bound id at given start mid now early late)
-
-    pub start_none : is_given resolved g atoms off node id ≡ false → (ends : List Bound) → ends ≡ [] → AreAllOf (led_on resolved g atoms off ways bound) ends
-    start_none given ends empty =
-        all_is (led_on resolved g atoms off ways bound) ends
-        (empty ∙ sym (end_stops resolved g atoms off rest edge node source bound id at given) ∙ ap (λ w. led_on resolved g atoms off w bound) (sym first))
-
-    pub start_tried : (start now : ℕ) → now ≤ start + (1 + option_map_or (asked_most resolved g atoms off node) (admitted_node resolved g atoms node id) 0) →
-        now ≤ start + on_most resolved g atoms off 0 ways bound
-    start_tried start now cost =
-        subst (λ w. now ≤ start + on_most resolved g atoms off 0 w bound) (sym first) (end_tried resolved g atoms off rest edge node source bound id at start now cost)
 
     module _ (var : ℕ) (pairs : List Stand) (path : is_path var ways ≡ true) (among : IsAmong g pairs var bound) (closed : IsClosed resolved g atoms pairs ways) where
       both : (edge ≡ var) × (is_path node rest ≡ true)

@@ -1,5 +1,5 @@
 -- To what the steps of a way lead from nodes, each node once, and how many look-ups that takes.
-use Rattle.std.proofs.Common.{◌≡◌, ℕ, zero, suc, ◌+◌, ◌*◌, ◌≤◌, ◌<◌, Bool, true, false, ◌&&◌, ◌==◌, cond, ⊎_elim, List, [], ◌∷◌, ◌++◌, length, map, filter, take, get_or, Option, Some, None, refl, sym, ◌∙◌, ap, subst, true≢false, arith}
+use Rattle.std.proofs.Common.{◌≡◌, ℕ, suc, ◌+◌, ◌≤◌, ◌<◌, Bool, true, false, ◌==◌, cond, ⊎_elim, List, [], ◌∷◌, ◌++◌, length, map, filter, take, get_or, Option, Some, None, refl, sym, ◌∙◌, ap, subst, true≢false, arith}
 use Rattle.std.specs.Prelude.{is_some, option_and_then, filter_map}
 use Rattle.std.specs.Option.{option_map_or}
 use Rattle.std.specs.List.{Contains, flat_map, sum_by, cons_option}
@@ -11,7 +11,7 @@ use Rattle.std.proofs.lemmas.List.Folds.{flat_map-map}
 use Rattle.std.proofs.lemmas.List.Sums.{sum_by-cons, sum_by-append, sum_by_more, get_or-le-sum_by}
 use Rattle.pgs_base.specs.declared.element.NodeId.{NodeId}
 use Rattle.pgs_base.specs.declared.element.EdgeId.{EdgeId}
-use Rattle.pgs_base.specs.declared.element.Elem.TheVariants.{Node, Edge}
+use Rattle.pgs_base.specs.declared.element.Elem.TheVariants.{Node}
 use Rattle.pgs_base.specs.Graph.{Graph}
 use Rattle.pgs_syntax.specs.declared.pattern.Atom.{Atom}
 use Rattle.pgs_syntax.specs.declared.resolved.Resolved.{Resolved}
@@ -37,12 +37,12 @@ use Rattle.pgs_match.proofs.Noting.{sum_less, was_room, node_bound, edge_bound, 
 -- ---- sums and members
 
 module _ {X Y : Type 0} where
-  pub sum_flat : (count : Y → ℕ) (f : X → List Y) (xs : List X) → sum_by count (flat_map f xs) ≡ sum_by (λ x. sum_by count (f x)) xs
+  sum_flat : (count : Y → ℕ) (f : X → List Y) (xs : List X) → sum_by count (flat_map f xs) ≡ sum_by (λ x. sum_by count (f x)) xs
   sum_flat count f [] = refl
   sum_flat count f (x ∷ xs) =
       sum_by-append count (f x) (flat_map f xs) ∙ ap (λ n. sum_by count (f x) + n) (sum_flat count f xs) ∙ sym (sum_by-cons (λ y. sum_by count (f y)) x xs)
 
-  pub sum_map : (count : Y → ℕ) (f : X → Y) (xs : List X) → sum_by count (map f xs) ≡ sum_by (λ x. count (f x)) xs
+  sum_map : (count : Y → ℕ) (f : X → Y) (xs : List X) → sum_by count (map f xs) ≡ sum_by (λ x. count (f x)) xs
   sum_map count f [] = refl
   sum_map count f (x ∷ xs) =
       sum_by-cons count (f x) (map f xs) ∙ ap (λ n. count (f x) + n) (sum_map count f xs) ∙ sym (sum_by-cons (λ z. count (f z)) x xs)
@@ -77,7 +77,7 @@ module _ {X Y : Type 0} where
   flat_same f h each [] = refl
   flat_same f h each (x ∷ xs) = ap (λ l. l ++ flat_map f xs) (each x) ∙ ap (λ l. h x ++ l) (flat_same f h each xs)
 
-  pub flat_none : (f : X → List Y) → ((x : X) → f x ≡ []) → (xs : List X) → flat_map f xs ≡ []
+  flat_none : (f : X → List Y) → ((x : X) → f x ≡ []) → (xs : List X) → flat_map f xs ≡ []
   flat_none f none [] = refl
   flat_none f none (x ∷ xs) = ap (λ l. l ++ flat_map f xs) (none x) ∙ flat_none f none xs
 
@@ -128,7 +128,7 @@ same_node id other same = cc
 
 -- ---- bounds that were found
 
-pub all_same : (found : List Bound) → AreAllOf found found
+all_same : (found : List Bound) → AreAllOf found found
 all_same found = (λ bound h. h, λ bound h. h, λ count. omega arith)
 
 pub all_is : (others found : List Bound) → found ≡ others → AreAllOf others found
@@ -139,7 +139,7 @@ all_then others mid found first second =
     (λ bound h. second.0 bound (first.0 bound h), λ bound h. first.1 bound (second.1 bound h),
     λ count. let one = first.2 count in let other = second.2 count in omega (arith, one, other))
 
-pub all_flat : (f : Bound → List Bound) (others found : List Bound) → AreAllOf others found → AreAllOf (flat_map f others) (flat_map f found)
+all_flat : (f : Bound → List Bound) (others found : List Bound) → AreAllOf others found → AreAllOf (flat_map f others) (flat_map f found)
 all_flat f others found all =
     (λ bound h. let it = flat_found f others bound h in flat_given f found it.0 bound (all.0 it.0 it.1) it.2,
     λ bound h. let it = flat_found f found bound h in flat_given f others it.0 bound (all.1 it.0 it.1) it.2,
@@ -149,7 +149,7 @@ all_flat f others found all =
     let other = sum_flat count f others in
     omega (arith, less, one, other))
 
-pub all_both : (others found more some : List Bound) → AreAllOf others found → AreAllOf more some → AreAllOf (others ++ more) (found ++ some)
+all_both : (others found more some : List Bound) → AreAllOf others found → AreAllOf more some → AreAllOf (others ++ more) (found ++ some)
 all_both others found more some first second =
     (λ bound h. ⊎_elim (λ at. Contains-append_left found some bound (first.0 bound at)) (λ at. Contains-append_right found some bound (second.0 bound at)) (Contains-append_cases others more bound h),
     λ bound h. ⊎_elim (λ at. Contains-append_left others more bound (first.1 bound at)) (λ at. Contains-append_right others more bound (second.1 bound at)) (Contains-append_cases found some bound h),
@@ -211,7 +211,7 @@ at_var g var count few pairs = sum_less (λ (stand : Stand). cond (stand.var == 
 
 -- ---- along a way
 
-pub path_parts : (var edge node other end : ℕ) (forward source : Bool) (rest : List Step) → is_path var (Along edge node forward ∷ End other end source ∷ rest) ≡ true →
+path_parts : (var edge node other end : ℕ) (forward source : Bool) (rest : List Step) → is_path var (Along edge node forward ∷ End other end source ∷ rest) ≡ true →
     (node ≡ var) × (other ≡ edge) × (is_path end rest ≡ true)
 path_parts var edge node other end forward source rest path =
     let first = and_parts (node == var) _ path in
@@ -260,7 +260,7 @@ module _ (resolved : Resolved) (g : Graph) (atoms : List Atom) (off : List Step)
 
   -- over two steps of a way, from nodes to the nodes behind them
   module _ (hop : Hop) (rest : List Step) (here next : List NodeId) (all : AreAllOf (flat_map (hop_bounds resolved g atoms off hop) here) (at_nodes next)) where
-    pub hop_leads : (ends : List Bound) → AreAllOf (flat_map (led_on resolved g atoms off rest) (at_nodes next)) ends →
+    hop_leads : (ends : List Bound) → AreAllOf (flat_map (led_on resolved g atoms off rest) (at_nodes next)) ends →
         AreAllOf (flat_map (led_on resolved g atoms off (hop_steps hop ++ rest)) (at_nodes here)) ends
     hop_leads ends last =
         let steps : List Step = hop_steps hop ++ rest in
@@ -273,7 +273,7 @@ module _ (resolved : Resolved) (g : Graph) (atoms : List Atom) (off : List Step)
         (all_then (flat_map (led_on resolved g atoms off rest) (flat_map (hop_bounds resolved g atoms off hop) here)) (flat_map (led_on resolved g atoms off rest) (at_nodes next)) ends
         (all_flat (led_on resolved g atoms off rest) (flat_map (hop_bounds resolved g atoms off hop) here) (at_nodes next) all) last)
 
-    pub hop_takes : sum_by (λ from. on_most resolved g atoms off 0 (hop_steps hop) (bounds.Node from)) here + sum_by (on_most resolved g atoms off 0 rest) (at_nodes next)
+    hop_takes : sum_by (λ from. on_most resolved g atoms off 0 (hop_steps hop) (bounds.Node from)) here + sum_by (on_most resolved g atoms off 0 rest) (at_nodes next)
         ≤ sum_by (on_most resolved g atoms off 0 (hop_steps hop ++ rest)) (at_nodes here)
     hop_takes =
         let few = all.2 (on_most resolved g atoms off 0 rest) in
@@ -324,7 +324,7 @@ module _ (resolved : Resolved) (g : Graph) (atoms : List Atom) (off : List Step)
         let same : two.0 ≡ bounds.Node id = ⊎_elim (λ h. h) (λ h. absurd (contains_none (bounds.Node id) h)) (contains_cases two.0 [] (bounds.Node id) two.2) in
         end_among pairs edge node source one.0 among ahead id (subst (Contains (next_bounds resolved g atoms (End edge node source) one.0)) same last.0)
 
-    pub all_among : (here next : List NodeId) → ((id : NodeId) → Contains here id → Contains pairs (stand_at var (Node id))) →
+    all_among : (here next : List NodeId) → ((id : NodeId) → Contains here id → Contains pairs (stand_at var (Node id))) →
         AreAllOf (flat_map (λ from. led_on resolved g atoms off (Along edge 0 forward ∷ End edge node source ∷ []) (bounds.Node from)) here) (at_nodes next) → (id : NodeId) → Contains next id → Contains pairs (stand_at node (Node id))
     all_among here next has all id among =
         let listed = all.1 (bounds.Node id) (map_given bounds.Node next id among) in
@@ -349,7 +349,7 @@ module _ (resolved : Resolved) (g : Graph) (atoms : List Atom) (off : List Step)
       let listed = listed_few resolved g atoms forward bound in
       omega (arith, kept, given, listed)
 
-  pub few_edges : (edge node : ℕ) (forward : Bool) (var : ℕ) (here : List NodeId) (pairs : List Stand) → AreApart here →
+  few_edges : (edge node : ℕ) (forward : Bool) (var : ℕ) (here : List NodeId) (pairs : List Stand) → AreApart here →
       ((id : NodeId) → Contains here id → Contains pairs (stand_at var (Node id))) →
       length (flat_map (kept_bounds resolved g atoms off (Along edge node forward)) (at_nodes here)) ≤ sum_by (λ (stand : Stand). elem_degree g stand.elem + 2) pairs
   few_edges edge node forward var here pairs apart has =
@@ -361,12 +361,7 @@ module _ (resolved : Resolved) (g : Graph) (atoms : List Atom) (off : List Step)
       let most = at_var g var (λ (stand : Stand). elem_degree g stand.elem) (λ stand. omega arith) pairs in
       omega (arith, long, each, less, once, most)
 
-  -- ---- from the first steps
-
-  pub no_end : (ways : List Step) (edge node : ℕ) (source : Bool) (bound : Bound) → None ≡ end_at source (Some bound) → led_on resolved g atoms off (End edge node source ∷ ways) bound ≡ []
-  no_end ways edge node source bound none =
-      ap (λ (o : Option NodeId). flat_map (led_on resolved g atoms off ways)
-      (filter (can_be_given resolved g atoms off node) (option_map_or (λ next. next ∷ []) (option_and_then (admitted_node resolved g atoms node) o) []))) (sym none)
+  -- ---- where no step goes on
 
   pub none_from : (ways : List Step) (edge node : ℕ) (source : Bool) (here : List NodeId) → flat_map (led_on resolved g atoms off (End edge node source ∷ ways)) (at_nodes here) ≡ []
   none_from ways edge node source here =
@@ -399,19 +394,13 @@ module _ (resolved : Resolved) (g : Graph) (atoms : List Atom) (off : List Step)
           let found = given_found (admitted_edge resolved g atoms edge) (edges_along g forward (Some (bounds.Node id))) x next.0 in
           from_edge x found.0 found.2)
 
-  -- the node at the end of an edge, where it stays on the way, and what it takes
+  -- the node at the end of an edge, where it stays on the way
   module _ (ways : List Step) (edge node : ℕ) (source : Bool) (bound : Bound) (id : NodeId) (at : Some id ≡ end_at source (Some bound)) where
     abbrev kept_of : Option Bound → List Bound
     kept_of o = filter (can_be_given resolved g atoms off node) (option_map_or (λ next. next ∷ []) o [])
 
-    abbrev most_of : Option Bound → ℕ
-    most_of o = 1 + option_map_or (λ next. asked_most resolved g atoms off node next + on_most resolved g atoms off 0 ways next) o 0
-
     kept_end : kept_bounds resolved g atoms off (End edge node source) bound ≡ kept_of (admitted_node resolved g atoms node id)
     kept_end = ap (λ (o : Option NodeId). kept_of (option_and_then (admitted_node resolved g atoms node) o)) (sym at)
-
-    most_end : on_most resolved g atoms off 0 (End edge node source ∷ ways) bound ≡ most_of (admitted_node resolved g atoms node id)
-    most_end = ap (λ (o : Option NodeId). most_of (option_and_then (admitted_node resolved g atoms node) o)) (sym at)
 
     is_admitted : is_given resolved g atoms off node id ≡ true → (admitted_node resolved g atoms node id ≡ Some (bounds.Node id)) × (can_be_given resolved g atoms off node (bounds.Node id) ≡ true)
     is_admitted given = by (admitted_node resolved g atoms node id) refl given
@@ -428,31 +417,6 @@ module _ (resolved : Resolved) (g : Graph) (atoms : List Atom) (off : List Step)
         let it = is_admitted given in
         ap (flat_map (led_on resolved g atoms off ways))
         (kept_end ∙ ap kept_of it.0 ∙ ap (λ b. cond b (bounds.Node id ∷ []) []) it.1)
-
-    pub end_takes : is_given resolved g atoms off node id ≡ true → (start mid now : ℕ) →
-        mid ≤ start + (1 + option_map_or (asked_most resolved g atoms off node) (admitted_node resolved g atoms node id) 0) →
-        now ≤ mid + sum_by (on_most resolved g atoms off 0 ways) (at_nodes (id ∷ [])) → now ≤ start + on_most resolved g atoms off 0 (End edge node source ∷ ways) bound
-    end_takes given start mid now first second =
-        let it = is_admitted given in
-        let asked : option_map_or (asked_most resolved g atoms off node) (admitted_node resolved g atoms node id) 0 ≡ asked_most resolved g atoms off node (bounds.Node id) = ap (λ (o : Option Bound). option_map_or (asked_most resolved g atoms off node) o 0) it.0 in
-        let all : on_most resolved g atoms off 0 (End edge node source ∷ ways) bound ≡ most_of (Some (bounds.Node id)) = most_end ∙ ap most_of it.0 in
-        omega (arith, asked, all, first, second)
-
-    pub end_stops : is_given resolved g atoms off node id ≡ false → led_on resolved g atoms off (End edge node source ∷ ways) bound ≡ []
-    end_stops given = ap (flat_map (led_on resolved g atoms off ways)) (kept_end ∙ by (admitted_node resolved g atoms node id) given)
-      where
-        by : (o : Option Bound) → option_map_or (can_be_given resolved g atoms off node) o false ≡ false → kept_of o ≡ []
-        by None can = refl
-        by (Some x) can = ap (λ b. cond b (x ∷ []) []) can
-
-    pub end_tried : (start now : ℕ) → now ≤ start + (1 + option_map_or (asked_most resolved g atoms off node) (admitted_node resolved g atoms node id) 0) →
-        now ≤ start + on_most resolved g atoms off 0 (End edge node source ∷ ways) bound
-    end_tried start now cost = by (admitted_node resolved g atoms node id) most_end cost
-      where
-        by : (o : Option Bound) → on_most resolved g atoms off 0 (End edge node source ∷ ways) bound ≡ most_of o → now ≤ start + (1 + option_map_or (asked_most resolved g atoms off node) o 0) →
-            now ≤ start + on_most resolved g atoms off 0 (End edge node source ∷ ways) bound
-        by None all cost = omega (arith, all, cost)
-        by (Some x) all cost = omega (arith, all, cost)
 
     -- it is among the pairs that have what the edge comes to
     pub end_has : (pairs : List Stand) → IsAmong g pairs edge bound → HasAhead resolved g atoms pairs (End edge node source) → is_some (admitted_node resolved g atoms node id) ≡ true →

@@ -1,4 +1,4 @@
-use Rattle.std.proofs.Common.{◌≡◌, ◌≤◌, ◌+◌, ℕ, List, length, take}
+use Rattle.std.proofs.Common.{◌≤◌, ◌+◌, ℕ, List, length, take}
 use Rattle.std.specs.List.{Contains, flat_map, sum_by}
 use Rattle.pgs_base.specs.declared.element.NodeId.{NodeId}
 use Rattle.pgs_base.specs.declared.element.Elem.TheVariants.{Node}
