@@ -135,41 +135,46 @@ pub all_is : (others found : List Bound) → found ≡ others → AreAllOf other
 all_is others found same = subst (λ list. AreAllOf list found) same (all_same found)
 
 pub all_then : (others mid found : List Bound) → AreAllOf others mid → AreAllOf mid found → AreAllOf others found
-all_then others mid found first second =
-    (λ bound h. second.0 bound (first.0 bound h), λ bound h. first.1 bound (second.1 bound h),
-    λ count. let one = first.2 count in let other = second.2 count in omega (arith, one, other))
+all_then others mid found first second = (
+  λ bound h. second.0 bound (first.0 bound h),
+  λ bound h. first.1 bound (second.1 bound h),
+  λ count. let one = first.2 count in let other = second.2 count in omega (arith, one, other),
+)
 
 all_flat : (f : Bound → List Bound) (others found : List Bound) → AreAllOf others found → AreAllOf (flat_map f others) (flat_map f found)
-all_flat f others found all =
-    (λ bound h. let it = flat_found f others bound h in flat_given f found it.0 bound (all.0 it.0 it.1) it.2,
-    λ bound h. let it = flat_found f found bound h in flat_given f others it.0 bound (all.1 it.0 it.1) it.2,
-    λ count.
-    let less = all.2 (λ x. sum_by count (f x)) in
-    let one = sum_flat count f found in
-    let other = sum_flat count f others in
-    omega (arith, less, one, other))
+all_flat f others found all = (
+  λ bound h. let it = flat_found f others bound h in flat_given f found it.0 bound (all.0 it.0 it.1) it.2,
+  λ bound h. let it = flat_found f found bound h in flat_given f others it.0 bound (all.1 it.0 it.1) it.2,
+  λ count.
+      let less = all.2 (λ x. sum_by count (f x)) in
+      let one = sum_flat count f found in
+      let other = sum_flat count f others in
+      omega (arith, less, one, other),
+)
 
 all_both : (others found more some : List Bound) → AreAllOf others found → AreAllOf more some → AreAllOf (others ++ more) (found ++ some)
-all_both others found more some first second =
-    (λ bound h. ⊎_elim (λ at. Contains-append_left found some bound (first.0 bound at)) (λ at. Contains-append_right found some bound (second.0 bound at)) (Contains-append_cases others more bound h),
-    λ bound h. ⊎_elim (λ at. Contains-append_left others more bound (first.1 bound at)) (λ at. Contains-append_right others more bound (second.1 bound at)) (Contains-append_cases found some bound h),
-    λ count.
-    let one = first.2 count in
-    let other = second.2 count in
-    let front = sum_by-append count found some in
-    let back = sum_by-append count others more in
-    omega (arith, one, other, front, back))
+all_both others found more some first second = (
+  λ bound h. ⊎_elim (λ at. Contains-append_left found some bound (first.0 bound at)) (λ at. Contains-append_right found some bound (second.0 bound at)) (Contains-append_cases others more bound h),
+  λ bound h. ⊎_elim (λ at. Contains-append_left others more bound (first.1 bound at)) (λ at. Contains-append_right others more bound (second.1 bound at)) (Contains-append_cases found some bound h),
+  λ count.
+      let one = first.2 count in
+      let other = second.2 count in
+      let front = sum_by-append count found some in
+      let back = sum_by-append count others more in
+      omega (arith, one, other, front, back),
+)
 
 pub all_once : (ids once : List NodeId) → ((id : NodeId) → Contains ids id → Contains once id) → ((id : NodeId) → Contains once id → Contains ids id) →
     ((count : NodeId → ℕ) → sum_by count once ≤ sum_by count ids) → AreAllOf (at_nodes ids) (at_nodes once)
-all_once ids once kept no_other few =
-    (λ bound h. let it = map_found bounds.Node ids bound h in subst (Contains (at_nodes once)) it.2 (map_given bounds.Node once it.0 (kept it.0 it.1)),
-    λ bound h. let it = map_found bounds.Node once bound h in subst (Contains (at_nodes ids)) it.2 (map_given bounds.Node ids it.0 (no_other it.0 it.1)),
-    λ count.
-    let less = few (λ id. count (bounds.Node id)) in
-    let one = sum_map count bounds.Node once in
-    let other = sum_map count bounds.Node ids in
-    omega (arith, less, one, other))
+all_once ids once kept no_other few = (
+  λ bound h. let it = map_found bounds.Node ids bound h in subst (Contains (at_nodes once)) it.2 (map_given bounds.Node once it.0 (kept it.0 it.1)),
+  λ bound h. let it = map_found bounds.Node once bound h in subst (Contains (at_nodes ids)) it.2 (map_given bounds.Node ids it.0 (no_other it.0 it.1)),
+  λ count.
+      let less = few (λ id. count (bounds.Node id)) in
+      let one = sum_map count bounds.Node once in
+      let other = sum_map count bounds.Node ids in
+      omega (arith, less, one, other),
+)
 
 -- ---- what is paid
 
@@ -195,7 +200,7 @@ one_apart id = λ var pairs count has.
     let least = get_or-le-sum_by (λ (s : Stand). cond (s.var == var) (count s) 0) pairs here.0 stand here.1 in
     let own : cond (var == var) (count stand) 0 ≡ count stand = ap (λ b. cond b (count stand) 0) (eq-eqb var var refl) in
     let most : cond (var == var) (count stand) 0 ≤ sum_by (λ (s : Stand). cond (s.var == var) (count s) 0) pairs =
-        subst (λ (s : Stand). cond (s.var == var) (count s) 0 ≤ sum_by (λ (s : Stand). cond (s.var == var) (count s) 0) pairs) here.2 least in
+    subst (λ (s : Stand). cond (s.var == var) (count s) 0 ≤ sum_by (λ (s : Stand). cond (s.var == var) (count s) 0) pairs) here.2 least in
     omega (arith, most, own)
 
 at_var : (g : Graph) (var : ℕ) (count : Stand → ℕ) → ((stand : Stand) → count stand ≤ elem_degree g stand.elem + 2) → (pairs : List Stand) →
@@ -251,9 +256,9 @@ module _ (resolved : Resolved) (g : Graph) (atoms : List Atom) (off : List Step)
   takes_then (step ∷ ways) rest bound =
       let behind : Bound → ℕ = λ next. sum_by (on_most resolved g atoms off 0 rest) (led_on resolved g atoms off ways next) in
       let all : on_most resolved g atoms off 0 (step ∷ ways) bound + sum_by behind (next_bounds resolved g atoms step bound) ≤ on_most resolved g atoms off 0 (step ∷ ways ++ rest) bound =
-          step_parts (λ next. asked_most resolved g atoms off (bound_by step) next + on_most resolved g atoms off 0 ways next) behind
-          (λ next. asked_most resolved g atoms off (bound_by step) next + on_most resolved g atoms off 0 (ways ++ rest) next)
-          (λ next. let later = takes_then ways rest next in omega (arith, later)) step bound in
+      step_parts (λ next. asked_most resolved g atoms off (bound_by step) next + on_most resolved g atoms off 0 ways next) behind
+      (λ next. asked_most resolved g atoms off (bound_by step) next + on_most resolved g atoms off 0 (ways ++ rest) next)
+      (λ next. let later = takes_then ways rest next in omega (arith, later)) step bound in
       let flat = sum_flat (on_most resolved g atoms off 0 rest) (led_on resolved g atoms off ways) (kept_bounds resolved g atoms off step bound) in
       let kept = sum_kept behind (can_be_given resolved g atoms off (bound_by step)) (next_bounds resolved g atoms step bound) in
       omega (arith, all, flat, kept)
@@ -265,10 +270,10 @@ module _ (resolved : Resolved) (g : Graph) (atoms : List Atom) (off : List Step)
     hop_leads ends last =
         let steps : List Step = hop_steps hop ++ rest in
         let same : flat_map (led_on resolved g atoms off rest) (flat_map (hop_bounds resolved g atoms off hop) here) ≡ flat_map (led_on resolved g atoms off steps) (at_nodes here) =
-            flat_flat (led_on resolved g atoms off rest) (hop_bounds resolved g atoms off hop) here
-            ∙ flat_same (λ id. flat_map (led_on resolved g atoms off rest) (hop_bounds resolved g atoms off hop id)) (λ id. led_on resolved g atoms off steps (bounds.Node id))
-            (λ id. sym (leads_then (hop_steps hop) rest (bounds.Node id))) here
-            ∙ sym (flat_map-map (led_on resolved g atoms off steps) bounds.Node here) in
+        flat_flat (led_on resolved g atoms off rest) (hop_bounds resolved g atoms off hop) here
+        ∙ flat_same (λ id. flat_map (led_on resolved g atoms off rest) (hop_bounds resolved g atoms off hop id)) (λ id. led_on resolved g atoms off steps (bounds.Node id))
+        (λ id. sym (leads_then (hop_steps hop) rest (bounds.Node id))) here
+        ∙ sym (flat_map-map (led_on resolved g atoms off steps) bounds.Node here) in
         subst (λ list. AreAllOf list ends) same
         (all_then (flat_map (led_on resolved g atoms off rest) (flat_map (hop_bounds resolved g atoms off hop) here)) (flat_map (led_on resolved g atoms off rest) (at_nodes next)) ends
         (all_flat (led_on resolved g atoms off rest) (flat_map (hop_bounds resolved g atoms off hop) here) (at_nodes next) all) last)
@@ -464,7 +469,7 @@ module _ (resolved : Resolved) (g : Graph) (atoms : List Atom) (off : List Step)
       edges_once count before after start now paid =
           let once = apart var pairs (hop_most g count) way.0 in
           let own : hops_most g count ways pairs ≡ sum_by (λ (stand : Stand). cond (stand.var == var) (hop_most g count stand) 0) pairs + 0 =
-              ap (λ w. hops_most g count w pairs) whole_one ∙ ap (λ v. sum_by (λ (stand : Stand). cond (stand.var == v) (hop_most g count stand) 0) pairs + 0) same_var in
+          ap (λ w. hops_most g count w pairs) whole_one ∙ ap (λ v. sum_by (λ (stand : Stand). cond (stand.var == v) (hop_most g count stand) 0) pairs + 0) same_var in
           paid_less g pairs before after start now (sum_by (λ id. hop_most g count (stand_at var (Node id))) here) (hops_most g count ways pairs) paid (omega (arith, once, own))
 
       pub edges_few : (ends : List Bound) → ends ≡ flat_map (kept_bounds resolved g atoms off (Along edge 0 forward)) (at_nodes here) →
@@ -523,7 +528,7 @@ module _ (resolved : Resolved) (g : Graph) (atoms : List Atom) (off : List Step)
       lead_once count apart before mid after start between now stay early late =
           let once = apart var pairs (hop_most g count) way.0 in
           let own : hops_most g count ways pairs ≡ sum_by (λ (stand : Stand). cond (stand.var == var) (hop_most g count stand) 0) pairs + hops_most g count rest pairs =
-              ap (λ w. hops_most g count w pairs) whole_two ∙ ap (λ v. sum_by (λ (stand : Stand). cond (stand.var == v) (hop_most g count stand) 0) pairs + hops_most g count rest pairs) parts.0 in
+          ap (λ w. hops_most g count w pairs) whole_two ∙ ap (λ v. sum_by (λ (stand : Stand). cond (stand.var == v) (hop_most g count stand) 0) pairs + hops_most g count rest pairs) parts.0 in
           paid_then g pairs before mid after start between now (sum_by (λ id. hop_most g count (stand_at var (Node id))) here) (hops_most g count rest pairs) (hops_most g count ways pairs)
           stay early late (omega (arith, once, own))
 
@@ -536,8 +541,8 @@ module _ (resolved : Resolved) (g : Graph) (atoms : List Atom) (off : List Step)
     more_all old new before (ids, is, one) =
         let bounds_of : NodeId → List Bound = hop_bounds resolved g atoms off hop in
         let left : flat_map bounds_of (take (i + 1) here) ≡ flat_map bounds_of (take i here) ++ bounds_of (get_or here i d) =
-            ap (flat_map bounds_of) (take_more here i d below) ∙ flat_map-append bounds_of (take i here) (get_or here i d ∷ [])
-            ∙ ap (λ l. flat_map bounds_of (take i here) ++ l) (append-nil (bounds_of (get_or here i d))) in
+        ap (flat_map bounds_of) (take_more here i d below) ∙ flat_map-append bounds_of (take i here) (get_or here i d ∷ [])
+        ∙ ap (λ l. flat_map bounds_of (take i here) ++ l) (append-nil (bounds_of (get_or here i d))) in
         let right : at_nodes new ≡ at_nodes old ++ at_nodes ids = ap at_nodes is ∙ map-append bounds.Node old ids in
         subst (λ l. AreAllOf l (at_nodes new)) (sym left)
         (subst (AreAllOf (flat_map bounds_of (take i here) ++ bounds_of (get_or here i d))) (sym right)

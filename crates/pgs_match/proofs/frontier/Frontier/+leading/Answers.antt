@@ -120,7 +120,7 @@ returns-in-Some-Along-default-head-clause-all g t c =
     let first : ways ≡ Along one.edge one.field-0-0-1 one.forward ∷ one.rest.now = one.ensures ∙ ap (λ (step : Step). step ∷ one.rest.now) one.field-0-0-is in
     let two = c.in-Some-Along-default-head in
     let whole : ways ≡ Along one.edge one.field-0-0-1 one.forward ∷ Along two.field-0-0-0 two.field-0-0-1 two.field-0-0-2 ∷ two.field-0-1.now =
-        first ∙ ap (λ l. Along one.edge one.field-0-0-1 one.forward ∷ l) (two.ensures ∙ ap (λ (step : Step). step ∷ two.field-0-1.now) two.field-0-0-is) in
+    first ∙ ap (λ l. Along one.edge one.field-0-0-1 one.forward ∷ l) (two.ensures ∙ ap (λ (step : Step). step ∷ two.field-0-1.now) two.field-0-0-is) in
     subst (λ w. AreAllOf (flat_map (led_on resolved graph atoms off w) (at_nodes here)) c.new-in-Some-Along-default-head.result.items) (sym whole)
     (all_is (flat_map (led_on resolved graph atoms off (Along one.edge one.field-0-0-1 one.forward ∷ Along two.field-0-0-0 two.field-0-0-1 two.field-0-0-2 ∷ two.field-0-1.now)) (at_nodes here))
     c.new-in-Some-Along-default-head.result.items
@@ -142,7 +142,7 @@ returns-in_ok-next-in-Some-End-default-head-clause-all g t c =
     let found = c.in_ok-next-in-Some-End-default-head.ensures in
     let next = c.as_slice.result.now in
     let all : AreAllOf (flat_map (hop_bounds resolved graph atoms off (record { edge = one.edge; forward = one.forward; node = two.node; source = two.source })) here) (at_nodes next) =
-        subst (λ l. AreAllOf (flat_map (hop_bounds resolved graph atoms off (record { edge = one.edge; forward = one.forward; node = two.node; source = two.source })) here) (at_nodes l)) (sym c.as_slice.ensures) found.all in
+    subst (λ l. AreAllOf (flat_map (hop_bounds resolved graph atoms off (record { edge = one.edge; forward = one.forward; node = two.node; source = two.source })) here) (at_nodes l)) (sym c.as_slice.ensures) found.all in
     IfOk-weaker c.lead_on.result _ _ (λ ends last. lead_all resolved graph atoms off ways one.rest.now two.rest.now here next one.edge one.field-0-0-1 two.field-0-0-0 two.node one.forward two.source first second all ends.items last) c.lead_on.ensures.all
 
 pub returns-in_ok-next-in-Some-End-default-head-clause-cost : goal.returns-in_ok-next-in-Some-End-default-head-clause-cost
@@ -160,7 +160,7 @@ returns-in_ok-next-in-Some-End-default-head-clause-cost g t c =
     let found = c.in_ok-next-in-Some-End-default-head.ensures in
     let next = c.as_slice.result.now in
     let all : AreAllOf (flat_map (hop_bounds resolved graph atoms off (record { edge = one.edge; forward = one.forward; node = two.node; source = two.source })) here) (at_nodes next) =
-        subst (λ l. AreAllOf (flat_map (hop_bounds resolved graph atoms off (record { edge = one.edge; forward = one.forward; node = two.node; source = two.source })) here) (at_nodes l)) (sym c.as_slice.ensures) found.all in
+    subst (λ l. AreAllOf (flat_map (hop_bounds resolved graph atoms off (record { edge = one.edge; forward = one.forward; node = two.node; source = two.source })) here) (at_nodes l)) (sym c.as_slice.ensures) found.all in
     lead_cost resolved graph atoms off ways one.rest.now two.rest.now here next one.edge one.field-0-0-1 two.field-0-0-0 two.node one.forward two.source first second all c.args.steps.now c.all_behind.new.steps c.lead_on.new.steps found.cost c.lead_on.ensures.cost
 
 pub returns-in_ok-next-in-Some-End-default-head-clause-once : goal.returns-in_ok-next-in-Some-End-default-head-clause-once
@@ -178,7 +178,7 @@ returns-in_ok-next-in-Some-End-default-head-clause-once g t c =
     let found = c.in_ok-next-in-Some-End-default-head.ensures in
     let next = c.as_slice.result.now in
     let all : AreAllOf (flat_map (hop_bounds resolved graph atoms off (record { edge = one.edge; forward = one.forward; node = two.node; source = two.source })) here) (at_nodes next) =
-        subst (λ l. AreAllOf (flat_map (hop_bounds resolved graph atoms off (record { edge = one.edge; forward = one.forward; node = two.node; source = two.source })) here) (at_nodes l)) (sym c.as_slice.ensures) found.all in
+    subst (λ l. AreAllOf (flat_map (hop_bounds resolved graph atoms off (record { edge = one.edge; forward = one.forward; node = two.node; source = two.source })) here) (at_nodes l)) (sym c.as_slice.ensures) found.all in
     λ var pairs few path apart way.
     let early = found.once var pairs few way.2 way.0 (lead_along resolved graph atoms off ways one.rest.now two.rest.now here next one.edge one.field-0-0-1 two.field-0-0-0 two.node one.forward two.source first second all var pairs path way) (lead_ahead resolved graph atoms off ways one.rest.now two.rest.now here next one.edge one.field-0-0-1 two.field-0-0-0 two.node one.forward two.source first second all var pairs path way) in
     on_ok_weaker c.lead_on.result
@@ -200,6 +200,6 @@ returns-in_ok-next-in-Some-End-default-head-clause-few g t c =
     let found = c.in_ok-next-in-Some-End-default-head.ensures in
     let next = c.as_slice.result.now in
     let all : AreAllOf (flat_map (hop_bounds resolved graph atoms off (record { edge = one.edge; forward = one.forward; node = two.node; source = two.source })) here) (at_nodes next) =
-        subst (λ l. AreAllOf (flat_map (hop_bounds resolved graph atoms off (record { edge = one.edge; forward = one.forward; node = two.node; source = two.source })) here) (at_nodes l)) (sym c.as_slice.ensures) found.all in
+    subst (λ l. AreAllOf (flat_map (hop_bounds resolved graph atoms off (record { edge = one.edge; forward = one.forward; node = two.node; source = two.source })) here) (at_nodes l)) (sym c.as_slice.ensures) found.all in
     λ var pairs path apart way.
     c.lead_on.ensures.few two.node pairs (lead_path resolved graph atoms off ways one.rest.now two.rest.now here next one.edge one.field-0-0-1 two.field-0-0-0 two.node one.forward two.source first second all var pairs path way) (subst AreApart (sym c.as_slice.ensures) found.apart) (lead_way resolved graph atoms off ways one.rest.now two.rest.now here next one.edge one.field-0-0-1 two.field-0-0-0 two.node one.forward two.source first second all var pairs path way)
