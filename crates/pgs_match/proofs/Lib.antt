@@ -51,6 +51,8 @@ pub mod Remembered
 pub mod Learning
 pub mod FrontierPlans
 pub mod FrontierRoutes
+pub mod Frontiers
+pub mod FrontierStarts
 pub mod Behind
 pub mod Kept
 pub mod Apart
