@@ -53,3 +53,4 @@ pub mod FrontierPlans
 pub mod FrontierRoutes
 pub mod Kept
 pub mod Apart
+pub mod ToOne
