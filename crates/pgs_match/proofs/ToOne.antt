@@ -1,7 +1,7 @@
 -- What a search along a way to one variable takes, over what its parts say.
 use Rattle.std.proofs.Common.{◌≡◌, ℕ, ◌+◌, ◌*◌, ◌<◌, ◌≤◌, Bool, true, false, ◌&&◌, ◌||◌, ◌==◌, not, cond, List, [], ◌∷◌, length, nat_lt, Option, Some, None, Result, Ok, Err, IfOk, OnOk, refl, sym, ◌∙◌, ap, subst, true≢false, arith}
 use Rattle.std.specs.Prelude.{option_and_then, map}
-use Rattle.std.specs.Option.{option_map_or}
+use Rattle.std.specs.Option.{IfSome, option_map_or}
 use Rattle.std.specs.List.{Contains, list_all, sum_by}
 use Rattle.std.proofs.Math.Nat.{mul-le-mul_right, mul_comm}
 use Rattle.std.proofs.lemmas.Bool.{and_parts, eqb-true, lt-ltb}
@@ -9,6 +9,7 @@ use Rattle.std.proofs.lemmas.List.Sums.{sum_by-cons, get_or-le-sum_by}
 use Rattle.pgs_base.specs.declared.element.EdgeId.{EdgeId}
 use Rattle.pgs_base.specs.declared.element.Elem.{Elem}
 use Rattle.pgs_base.specs.Graph.{Graph}
+use Rattle.pgs_syntax.specs.declared.key.Key.{Key}
 use Rattle.pgs_syntax.specs.declared.pattern.Atom.{Atom}
 use Rattle.pgs_syntax.specs.declared.pattern.Expr.{Expr}
 use Rattle.pgs_syntax.specs.declared.pattern.Pattern.{Pattern}
@@ -18,12 +19,15 @@ use Rattle.pgs_match.specs.declared.step.Step.{Step}
 use Rattle.pgs_match.specs.declared.step.Step.TheVariants.{Along, End}
 use Rattle.pgs_match.specs.declared.stand.Stand.{Stand}
 use Rattle.pgs_match.specs.declared.bindings.Bound.{Bound}
+use Rattle.pgs_match.specs.declared.learned.WayMemo.{WayMemo}
 use Rattle.pgs_match.specs.declared.notes.Notes.{Notes}
+use Rattle.pgs_match.specs.declared.plan.Plan.{Plan}
 use Rattle.pgs_match.specs.Answers.{is_bound_in, IsAmong, IsClosed, own_most}
 use Rattle.pgs_match.specs.Bounds.{bound_at, with_bound, nothing_bound, elem_of, end_at}
 use Rattle.pgs_match.specs.Branches.{degree_at, asked_most}
 use Rattle.pgs_match.specs.Frontier.{led_on, on_most, is_path, leads_to_one, unasked, hop_most, hops_most, AreAllOf, AreNoted}
-use Rattle.pgs_match.specs.Learned.{is_short}
+use Rattle.pgs_match.specs.Learned.{is_short, IsWayMemo, IsWayTaken}
+use Rattle.pgs_match.specs.Planned.{IsSplit, taken}
 use Rattle.pgs_match.specs.Plans.{bound_by, is_plan}
 use Rattle.pgs_match.specs.Routes.{on_way, off_way, way_most}
 use Rattle.pgs_match.specs.Search.{edges_along}
@@ -149,6 +153,15 @@ once_total g pattern var steps exprs wanted valid plans on off on_is few leads p
     let two = owed_most g before.off pairs in
     let here = pair_within g pairs var elem has in
     omega (arith, hops, same, most, one, two, here, first, cost)
+
+-- ---- what was noted for key values
+
+-- what was taken out is right where it was
+pub values_taken_right : (resolved : Resolved) (g : Graph) (key : Key) (former : Option WayMemo) (plan : Plan) (memo : WayMemo) → IfSome former (IsWayMemo resolved g key) → IsWayTaken former plan memo →
+    IsSplit (taken key) key.descriptor 0 plan → IsWayMemo resolved g key memo
+values_taken_right resolved g key (Some former) plan memo right same split = subst (IsWayMemo resolved g key) (sym same) right
+values_taken_right resolved g key None plan memo right fresh split =
+    (subst (IsSplit (taken key) key.descriptor 0) (sym fresh.0) split, fresh.1 resolved g key.descriptor.atoms memo.plan.off)
 
 -- ---- short ways
 
