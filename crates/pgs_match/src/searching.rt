@@ -123,7 +123,8 @@ impl<'a, G: GraphRead> Place<'a, G> {
 
     /// The tuples of expressions under the matches that have the element at the variable, by a plan from there. Where the plan has a step
     /// for each end of each edge place, the search goes along the way to what the expressions take, and of all else it is asked whether it
-    /// can be given.
+    /// can be given. Where it leads to one variable, each pair of a variable and an element is gone over once, by what was noted; `Memory` then
+    /// also where an answer couldn't be noted for want of it.
     pub(crate) fn tuples<L: Ledger>(
         &self,
         alloc: Global,
