@@ -248,15 +248,7 @@ pub fn key_values_learned<G: GraphRead, L: Ledger>(
         pattern,
     };
     let mut memo = learned.values_taken(plan)?;
-    let tuples = place.tuples(
-        alloc,
-        exprs,
-        &memo.plan,
-        0,
-        elem,
-        &mut memo.notes,
-        steps,
-    )?;
+    let tuples = place.tuples(alloc, exprs, &memo.plan, 0, elem, &mut memo.notes, steps)?;
     learned.values = Some(memo);
     Ok(tuples)
 }

@@ -260,4 +260,3 @@ returns-clause-once g c =
     (x_among place.compiled.now graph place.pattern.now c.requires.valid c.args.var c.requires.in_range steps c.requires.plan.0 c.args.elem x (sym c.begin-admitted.ensures.value ∙ at) pairs has))
     (closed_as search.compiled.now place.compiled.now other graph search.atoms.now place.pattern.now.atoms same pairs on (on_way wanted steps) on_is parts.0)
     (closed_as search.compiled.now place.compiled.now other graph search.atoms.now place.pattern.now.atoms same pairs off (off_way wanted steps) off_is parts.1))
-
