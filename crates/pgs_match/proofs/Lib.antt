@@ -56,3 +56,4 @@ pub mod FrontierStarts
 pub mod Behind
 pub mod Kept
 pub mod Apart
+pub mod ToOne

@@ -64,7 +64,8 @@ pub fn in_scope<G: GraphRead, L: Ledger>(
 /// tuples. Where the descriptor has no cycle it takes at most 80 times the sum of the degrees plus 2 over the routes to the variables that
 /// the expressions take, each counted once a route, and over the walks off these, each counted once a walk (`routed_from` in
 /// `specs/Routes.antt` of `pgs_match`). Where they take one variable beside x, that is at most 160 times the sum over all that walks along
-/// the descriptor from the element come to, each counted once a walk.
+/// the descriptor from the element come to, each counted once a walk; and, unless `Memory` comes, at most 1400 times the sum over the pairs
+/// of a variable and an element that these come to, each counted once. `Memory` also where an answer couldn't be noted for want of it.
 pub fn key_values<G: GraphRead, L: Ledger>(
     alloc: Global,
     graph: &G,
@@ -104,7 +105,8 @@ pub fn key_values<G: GraphRead, L: Ledger>(
 ///
 /// At every exit it has taken at most 16 * (d + 2)^(w + 1) look-ups, with w and d as for [`in_scope`], and it gives at most (d + 2)^w
 /// elements. Where the pattern has no cycle it takes at most 160 times the sum of the degrees plus 2 over all that walks along the pattern
-/// from the element at the variable come to, each counted once a walk.
+/// from the element at the variable come to, each counted once a walk; and, unless `Memory` comes, at most 1400 times the sum over the pairs
+/// of a variable and an element that these come to, each counted once. `Memory` also where an answer couldn't be noted for want of it.
 pub fn reach<G: GraphRead, L: Ledger>(
     alloc: Global,
     graph: &G,

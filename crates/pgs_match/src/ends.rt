@@ -142,10 +142,12 @@ impl<'a, G: GraphRead> Way<'a, G> {
         match admitted {
             Some(bound) => {
                 let tuples = self.tuples_from(on, var, bound, notes, steps)?;
-                if notes.on.is_full {
+                let on_full = notes.on.is_full;
+                if on_full {
                     return Err(Memory);
                 }
-                if notes.off.is_full {
+                let off_full = notes.off.is_full;
+                if off_full {
                     return Err(Memory);
                 }
                 Ok(tuples)

@@ -214,8 +214,9 @@ fn is_noted_on_way(atoms: &[Atom], plan: &Plan, exprs: &[Expr]) -> bool {
     is_by_nodes(plan, 0, exprs) && is_tree(atoms, plan.steps.as_slice())
 }
 
-/// The key values of an element, by what was learned of the same key in the same graph. So far nothing is learned of a descriptor. The
-/// key's types are those of the schema. `Memory` where none was left; what was learned is right then too.
+/// The key values of an element, by what was learned of the same key in the same graph; what is learned anew is added, where the descriptor
+/// has no cycle and the expressions take one variable beside x. The key's types are those of the schema. `Memory` where none was left; what
+/// was learned is right then too.
 pub fn key_values_learned<G: GraphRead, L: Ledger>(
     alloc: Global,
     graph: &G,
@@ -247,15 +248,7 @@ pub fn key_values_learned<G: GraphRead, L: Ledger>(
         pattern,
     };
     let mut memo = learned.values_taken(plan)?;
-    let tuples = place.tuples(
-        alloc,
-        exprs,
-        &memo.plan,
-        0,
-        elem,
-        &mut memo.notes,
-        steps,
-    )?;
+    let tuples = place.tuples(alloc, exprs, &memo.plan, 0, elem, &mut memo.notes, steps)?;
     learned.values = Some(memo);
     Ok(tuples)
 }

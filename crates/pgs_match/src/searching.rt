@@ -1,14 +1,13 @@
 //! Searches from one variable of a pattern and an element.
 
-ghost use Rattle.std.specs.Prelude.{◌≡◌, ◌+◌, ◌*◌, ◌^◌, ◌<◌, ◌≤◌, ◌==◌, ◌||◌, ◌&&◌, ℕ, List as Items, nat_lt, true, false, None, [], map, length, IfOk, OnOk, OnSome};
+ghost use Rattle.std.specs.Prelude.{◌≡◌, ◌+◌, ◌*◌, ◌^◌, ◌<◌, ◌≤◌, ◌==◌, ◌||◌, ◌&&◌, ℕ, List as Items, nat_lt, true, false, [], map, length, IfOk, OnOk, OnSome};
 ghost use Rattle.std.specs.Option.{option_map_or};
 ghost use Rattle.std.specs.List.{Contains, list_any, list_all, sum_by};
-ghost use Rattle.pgs_base.specs.declared.element.NodeId.{NodeId};
 ghost use Rattle.pgs_base.specs.Graph.{is_graph};
 ghost use Rattle.pgs_syntax.specs.Matches.{matches};
 ghost use Rattle.pgs_syntax.specs.Valid.{edge_count, read_var, is_valid_pattern, names_types};
 ghost use Rattle.pgs_match.specs.declared.stand.Stand.{Stand};
-ghost use Rattle.pgs_match.specs.Answers.{IsClosed, noted};
+ghost use Rattle.pgs_match.specs.Answers.{IsClosed};
 ghost use Rattle.pgs_match.specs.Frontier.{leads_to_one, AreNoted};
 ghost use Rattle.pgs_match.specs.Plans.{is_plan};
 ghost use Rattle.pgs_match.specs.Branches.{is_tree, walked_from};
@@ -124,7 +123,8 @@ impl<'a, G: GraphRead> Place<'a, G> {
 
     /// The tuples of expressions under the matches that have the element at the variable, by a plan from there. Where the plan has a step
     /// for each end of each edge place, the search goes along the way to what the expressions take, and of all else it is asked whether it
-    /// can be given.
+    /// can be given. Where it leads to one variable, each pair of a variable and an element is gone over once, by what was noted; `Memory` then
+    /// also where an answer couldn't be noted for want of it.
     pub(crate) fn tuples<L: Ledger>(
         &self,
         alloc: Global,
@@ -159,7 +159,6 @@ impl<'a, G: GraphRead> Place<'a, G> {
             + 160 * walked_from self.now.compiled.now (G.meaning self.now.graph.now) self.now.pattern.now plan.now.steps var elem }
         ensures once { is_tree self.now.pattern.now.atoms plan.now.steps ≡ true → (other : ℕ) → list_all (λ v. v == var || v == other) (map read_var exprs.now) ≡ true →
             (pairs : Items Stand) → Contains pairs (stand_at var elem) → IsClosed self.now.compiled.now (G.meaning self.now.graph.now) self.now.pattern.now.atoms pairs plan.now.steps →
-            ((of : ℕ) (id : NodeId) → (noted notes.old.on of id ≡ None) × (noted notes.old.off of id ≡ None)) →
             OnOk result (steps.new ≤ steps.old + 1400 * sum_by (λ (stand : Stand). elem_degree (G.meaning self.now.graph.now) stand.elem + 2) pairs) }
     {
         let atoms = self.pattern.atoms.as_slice();
@@ -307,7 +306,6 @@ impl<'a, G: GraphRead> Place<'a, G> {
         ensures walks { (other : ℕ) → list_all (λ v. v == var || v == other) (map read_var exprs.now) ≡ true → steps.new ≤ steps.old
             + 160 * walked_from self.now.compiled.now (G.meaning self.now.graph.now) self.now.pattern.now plan.now.steps var elem }
         ensures once { (pairs : Items Stand) → Contains pairs (stand_at var elem) → IsClosed self.now.compiled.now (G.meaning self.now.graph.now) self.now.pattern.now.atoms pairs plan.now.steps →
-            ((of : ℕ) (id : NodeId) → (noted notes.old.on of id ≡ None) × (noted notes.old.off of id ≡ None)) →
             OnOk result (steps.new ≤ steps.old + 1400 * sum_by (λ (stand : Stand). elem_degree (G.meaning self.now.graph.now) stand.elem + 2) pairs) }
     {
         let search = self.search();
