@@ -1,7 +1,7 @@
 -- Searches along a way to one variable of a tree: at each variable on the way the nodes that are come to are put in order, each once, before
 -- one goes on from them.
-use Rattle.std.specs.Prelude.{◌≡◌, ◌≤◌, ℕ, ◌+◌, ◌*◌, Bool, true, false, ◌&&◌, ◌||◌, ◌==◌, not, cond, List, [], ◌∷◌, length, map, filter, Option, Some}
-use Rattle.std.specs.List.{Contains, list_any, list_all, flat_map, sum_by}
+use Rattle.std.specs.Prelude.{◌≡◌, ◌≤◌, ℕ, ◌+◌, ◌*◌, Bool, true, false, ◌&&◌, ◌||◌, ◌==◌, not, cond, List, [], ◌∷◌, map, filter, Option, Some}
+use Rattle.std.specs.List.{Contains, list_all, flat_map, sum_by}
 use Rattle.std.specs.BTreeMap as tree
 use Rattle.pgs_base.specs.declared.element.NodeId.{NodeId}
 use Rattle.pgs_base.specs.declared.element.Elem.TheVariants.{Node}
