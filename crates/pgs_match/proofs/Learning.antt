@@ -36,13 +36,13 @@ use Rattle.pgs_match.proofs.Noting.{sum_less, owed}
 use Rattle.pgs_match.proofs.Standing.{IsGood}
 use Rattle.pgs_match.proofs.Started.{admitted_good}
 
-degree_same : (g : Graph) (x : Bound) → degree_at g x ≡ elem_degree g (elem_of x)
+pub degree_same : (g : Graph) (x : Bound) → degree_at g x ≡ elem_degree g (elem_of x)
 degree_same g (bounds.Node id) = refl
 degree_same g (bounds.Edge id source target) = refl
 
 -- ---- from x
 
-own_few : (long degree : ℕ) → long ≤ 19 → 3 + long * (1 + (long + 4) * degree) ≤ 440 * (degree + 2)
+pub own_few : (long degree : ℕ) → long ≤ 19 → 3 + long * (1 + (long + 4) * degree) ≤ 440 * (degree + 2)
 own_few long degree few =
     let one : long * (long + 4) ≤ 19 * (long + 4) = mul-le-mul_right (long + 4) few in
     let most : long * (long + 4) ≤ 437 = omega (arith, one, few) in
@@ -67,7 +67,7 @@ module _ (resolved : Resolved) (g : Graph) (pattern : Pattern) (valid : is_valid
         let it = good.1 in
         ap (option_map (λ (row : EdgeRow). cond source row.source row.target)) it.1 ∙ (λ i. Some (cond source (it.2 i) (it.3 i)))
 
-    x_among : (pairs : List Stand) → Contains pairs (stand_at var elem) → IsAmong g pairs var x
+    pub x_among : (pairs : List Stand) → Contains pairs (stand_at var elem) → IsAmong g pairs var x
     x_among pairs has =
         let good = admitted_good resolved g pattern var elem x admits in
         (subst (λ e. Contains pairs (stand_at var e)) (sym good.1) has, good_ends x good.0)
@@ -159,7 +159,7 @@ taken_right resolved g pattern None plan memo right fresh plans tree = (
   λ var id answer found. let e : None ≡ Some answer = sym (fresh.1 var id) ∙ found in cc,
 )
 
-owed_most : (g : Graph) (answers : Answers) (pairs : List Stand) → unnoted g answers pairs ≤ sum_by (λ (stand : Stand). elem_degree g stand.elem + 2) pairs
+pub owed_most : (g : Graph) (answers : Answers) (pairs : List Stand) → unnoted g answers pairs ≤ sum_by (λ (stand : Stand). elem_degree g stand.elem + 2) pairs
 owed_most g answers pairs = sum_less (owed g answers) (λ (stand : Stand). elem_degree g stand.elem + 2) each pairs
   where
     at_most : (b : Bool) (n : ℕ) → cond b 0 n ≤ n

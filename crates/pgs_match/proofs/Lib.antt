@@ -49,3 +49,11 @@ pub mod Noting
 pub mod Ending
 pub mod Remembered
 pub mod Learning
+pub mod FrontierPlans
+pub mod FrontierRoutes
+pub mod Frontiers
+pub mod FrontierStarts
+pub mod Behind
+pub mod Kept
+pub mod Apart
+pub mod ToOne

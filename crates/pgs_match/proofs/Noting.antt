@@ -39,10 +39,10 @@ same_pair : (var : ℕ) (id : NodeId) (of : ℕ) (other : NodeId) → is_same_pl
 same_pair var id of other h =
     exact_pairs nat_cmp nat_cmp exact_unsigned exact_unsigned (place var id) (place of other) ((Equal-is (place_cmp (place var id) (place of other))).0 h)
 
-same_var : (var : ℕ) (id : NodeId) (of : ℕ) (other : NodeId) → is_same_place var id of other ≡ true → var ≡ of
+pub same_var : (var : ℕ) (id : NodeId) (of : ℕ) (other : NodeId) → is_same_place var id of other ≡ true → var ≡ of
 same_var var id of other h = ap (λ (p : ℕ × ℕ). p.0) (same_pair var id of other h)
 
-same_id : (var : ℕ) (id : NodeId) (of : ℕ) (other : NodeId) → is_same_place var id of other ≡ true → id ≡ other
+pub same_id : (var : ℕ) (id : NodeId) (of : ℕ) (other : NodeId) → is_same_place var id of other ≡ true → id ≡ other
 same_id var id of other h =
     let same : id.0 ≡ other.0 = ap (λ (p : ℕ × ℕ). p.1) (same_pair var id of other h) in
     let whole : (n : ℕ) → NodeId = λ n. record { 0 = n } in

@@ -59,7 +59,7 @@ pub among : {X : Type 0} (xs ys : List X) → ((count : X → ℕ) → sum_by co
 among xs ys fewer test some = uncounted test ys (let one = counted test xs some in let less = fewer (λ x. one_if (test x)) in omega (arith, one, less))
 
 -- what each test that an item of the one passes is passed by
-within : {X : Type 0} (xs ys : List X) → ((x : X) → Contains xs x → Contains ys x) → (test : X → Bool) → list_any test xs ≡ true → list_any test ys ≡ true
+pub within : {X : Type 0} (xs ys : List X) → ((x : X) → Contains xs x → Contains ys x) → (test : X → Bool) → list_any test xs ≡ true → list_any test ys ≡ true
 within xs ys all test some =
     let it = Any-from_list_any test xs some in
     let own = all it.1 (it.0, it.2, it.3) in
@@ -114,7 +114,7 @@ all_stay x (z ∷ xs) ys above all =
     and_from _ _ (stays x z ys first.0 here.0) (all_stay x xs ys first.1 here.1)
 
 -- whatever is counted of each, the sum over elements in order is no greater than over others among which all of them are
-sum_among : (f : Elem → ℕ) (xs ys : List Elem) → ascends elem_cmp xs ≡ true → list_all (λ x. list_any (same_elem x) ys) xs ≡ true → sum_by f xs ≤ sum_by f ys
+pub sum_among : (f : Elem → ℕ) (xs ys : List Elem) → ascends elem_cmp xs ≡ true → list_all (λ x. list_any (same_elem x) ys) xs ≡ true → sum_by f xs ≤ sum_by f ys
 sum_among f [] ys rising all = omega arith
 sum_among f (x ∷ xs) ys rising all =
     let order = and_parts (list_all (λ later. is_lt (elem_cmp x later)) xs) _ rising in

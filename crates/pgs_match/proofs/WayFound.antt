@@ -1,8 +1,8 @@
 -- What a search along the way to some variables gives and costs, over what its parts say.
-use Rattle.std.proofs.Common.{◌≡◌, ℕ, ◌+◌, ◌*◌, ◌^◌, ◌<◌, ◌≤◌, true, ◌||◌, ◌==◌, List, [], ◌∷◌, length, map, fold, nat_lt, Option, Some, None, OnSome, refl, sym, ◌∙◌, ap, subst, arith}
+use Rattle.std.proofs.Common.{◌≡◌, ℕ, ◌+◌, ◌*◌, ◌^◌, ◌<◌, ◌≤◌, true, ◌||◌, ◌&&◌, ◌==◌, not, List, [], ◌∷◌, length, map, fold, nat_lt, Option, Some, None, OnSome, refl, sym, ◌∙◌, ap, subst, arith}
 use Rattle.std.specs.Option.{option_map_or}
 use Rattle.std.specs.List.{list_all}
-use Rattle.std.proofs.lemmas.Bool.{and_from, or_left, or_right, eq-eqb}
+use Rattle.std.proofs.lemmas.Bool.{and_from, and_parts, or_left, or_right, eq-eqb, eqb-true}
 use Rattle.pgs_base.specs.declared.element.Elem.{Elem}
 use Rattle.pgs_base.specs.declared.part.Part.{Part}
 use Rattle.pgs_base.specs.Graph.{Graph, is_graph}
@@ -14,14 +14,23 @@ use Rattle.pgs_syntax.specs.Valid.{read_var, edge_count, is_valid_pattern}
 use Rattle.pgs_match.specs.declared.step.Step.{Step}
 use Rattle.pgs_match.specs.declared.bindings.Bound.{Bound}
 use Rattle.pgs_match.specs.Bounds.{with_bound, nothing_bound}
-use Rattle.pgs_match.specs.Branches.{is_tree, walked, walked_from, asked_most}
+use Rattle.pgs_match.specs.Answers.{is_bound_in}
+use Rattle.pgs_match.specs.Branches.{is_tree, walked, walked_from, asked_most, degree_at}
+use Rattle.pgs_match.specs.Frontier.{is_path, leads_to_one}
+use Rattle.pgs_match.specs.Learned.{is_short}
 use Rattle.pgs_match.specs.Near.{IsSparse}
 use Rattle.pgs_match.specs.Plans.{is_plan}
 use Rattle.pgs_match.specs.Routes.{on_way, off_way, whole, routes, way_most, routed, routed_from, with_tuple}
 use Rattle.pgs_match.specs.Search.{gathered}
+use Rattle.pgs_match.specs.Spread.{elem_degree}
 use Rattle.pgs_match.specs.Tests.{admitted}
+use Rattle.pgs_match.proofs.Known.{valid_most}
+use Rattle.pgs_match.proofs.Learning.{degree_same}
 use Rattle.pgs_match.proofs.OnWay.{is_wanted}
 use Rattle.pgs_match.proofs.Searched.{IsSame, cost_without, few_with}
+use Rattle.pgs_match.proofs.Standing.{bound_now}
+use Rattle.pgs_match.proofs.Started.{admitted_good}
+use Rattle.pgs_match.proofs.ToOne.{short_way, none_off}
 use Rattle.pgs_match.proofs.WayEnds.{ways_sparse, ways_walks, ways_one, one_of}
 use Rattle.pgs_match.proofs.WayValues.{routes_give_all}
 
@@ -130,3 +139,21 @@ module _ (resolved : Resolved) (g : Graph) (pattern : Pattern) (valid : is_valid
             let bound = ways_one resolved g (graph_at x at) pattern valid var below plan plans elem x at wanted last (one_of var last wanted only) (length exprs) small in
             let all = some_taken x at in
             omega (arith, bound, all)
+
+    -- where the way is short, leads to one variable, and nothing hangs off it
+    pub cost_short : (is_short on && length off == 0) ≡ true → leads_to_one var on exprs ≡ true → after ≤ start + 440 * (elem_degree g elem + 2)
+    cost_short short leads = by (admitted resolved g pattern var elem) refl
+      where
+        by : (o : Option Bound) → admitted resolved g pattern var elem ≡ o → after ≤ start + 440 * (elem_degree g elem + 2)
+        by None at = let all = none_taken at in omega (arith, all)
+        by (Some x) at =
+            let tests = and_parts (is_short on) _ short in
+            let path = (and_parts (is_path var on) _ (and_parts (is_path var on && not (is_bound_in on var)) _ leads).0).0 in
+            let few = short_way resolved g pattern.atoms off (length exprs) small var (with_bound nothing_bound var x) x
+            (bound_now nothing_bound var x (let most = valid_most pattern valid in omega (arith, most, below))) on tests.0 path (none_off off (eqb-true (length off) 0 tests.1)) in
+            let here : cost x ≡ asked_most resolved g pattern.atoms off var x + way_most resolved g pattern.atoms off (length exprs) on (with_bound nothing_bound var x) =
+            sym (λ i. asked_most resolved g pattern.atoms (off_is i) var x + way_most resolved g pattern.atoms (off_is i) (length exprs) (on_is i) (with_bound nothing_bound var x)) in
+            let asked : asked_most resolved g pattern.atoms off var x ≡ 0 = ap (λ steps. asked_most resolved g pattern.atoms steps var x) (none_off off (eqb-true (length off) 0 tests.1)) in
+            let same : degree_at g x ≡ elem_degree g elem = degree_same g x ∙ ap (elem_degree g) (admitted_good resolved g pattern var elem x at).1 in
+            let all = some_taken x at in
+            omega (arith, few, here, asked, same, all)

@@ -43,7 +43,7 @@ use Rattle.pgs_match.proofs.Values.{from_ascends, has_from}
 -- ---- tuples of a list of bindings
 
 module _ (g : Graph) (exprs : List Expr) where
-  all_ascend : (list : List (List (Option Bound))) (tuples : List (List Part)) → IsStrictlySortedBy tuple_cmp tuples → IsStrictlySortedBy tuple_cmp (fold (with_tuple g exprs) tuples list)
+  pub all_ascend : (list : List (List (Option Bound))) (tuples : List (List Part)) → IsStrictlySortedBy tuple_cmp tuples → IsStrictlySortedBy tuple_cmp (fold (with_tuple g exprs) tuples list)
   all_ascend [] tuples order = order
   all_ascend (b ∷ list) tuples order = all_ascend list (with_tuple g exprs tuples b) (by (tuple_at g exprs b))
     where
@@ -52,7 +52,7 @@ module _ (g : Graph) (exprs : List Expr) where
       by (Some tuple) = ascending-insert_key tuple_cmp_total tuple tuples order
 
   module _ (resolved : Resolved) (atoms : List Atom) (tuple : List Part) where
-    has_all : (list : List (List (Option Bound))) (tuples : List (List Part)) →
+    pub has_all : (list : List (List (Option Bound))) (tuples : List (List Part)) →
         list_any (is_at (tuple_cmp tuple)) (fold (with_tuple g exprs) tuples list) ≡ (list_any (is_at (tuple_cmp tuple)) tuples || list_any (gives resolved g atoms exprs tuple) list)
     has_all [] tuples = sym (or-false (list_any (is_at (tuple_cmp tuple)) tuples))
     has_all (b ∷ list) tuples =

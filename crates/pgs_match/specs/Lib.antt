@@ -11,3 +11,4 @@ pub mod Routes
 pub mod Spread
 pub mod Learned
 pub mod Answers
+pub mod Frontier

@@ -10,7 +10,7 @@ ghost use Rattle.pgs_syntax.specs.Valid.{is_edge_var, is_valid_key_of};
 ghost use Rattle.pgs_match.specs.declared.step.Step.{Step};
 ghost use Rattle.pgs_match.specs.Branches.{has_no_cycle, walked_from};
 ghost use Rattle.pgs_match.specs.Plans.{is_plan};
-ghost use Rattle.pgs_match.specs.Learned.{HasSearched};
+ghost use Rattle.pgs_match.specs.Learned.{HasSearched, HasSearchedFrom};
 ghost use Rattle.pgs_match.specs.Near.{HasDegreesWithin, IsSparse};
 ghost use Rattle.pgs_match.specs.Reached.{reached};
 ghost use Rattle.pgs_match.specs.Planned.{most_edges, pattern_of, taken, first_elem};
@@ -18,6 +18,7 @@ ghost use Rattle.pgs_match.specs.Routes.{routed_from};
 ghost use Rattle.pgs_match.specs.declared.stand.Stand.{Stand};
 ghost use Rattle.pgs_match.specs.Spread.{IsNearSome, AreSparseFrom, HasPassed, are_in_range, elem_degree};
 
+use crate::notes::Notes;
 use crate::searching::Place;
 use crate::spreading::parted;
 use crate::{Learned, PlannedKey, Search, Side, Stand, in_order, in_scope_learned};
@@ -63,7 +64,8 @@ pub fn in_scope<G: GraphRead, L: Ledger>(
 /// tuples. Where the descriptor has no cycle it takes at most 80 times the sum of the degrees plus 2 over the routes to the variables that
 /// the expressions take, each counted once a route, and over the walks off these, each counted once a walk (`routed_from` in
 /// `specs/Routes.antt` of `pgs_match`). Where they take one variable beside x, that is at most 160 times the sum over all that walks along
-/// the descriptor from the element come to, each counted once a walk.
+/// the descriptor from the element come to, each counted once a walk; and, unless `Memory` comes, at most 1400 times the sum over the pairs
+/// of a variable and an element that these come to, each counted once. `Memory` also where an answer couldn't be noted for want of it.
 pub fn key_values<G: GraphRead, L: Ledger>(
     alloc: Global,
     graph: &G,
@@ -84,6 +86,9 @@ pub fn key_values<G: GraphRead, L: Ledger>(
     ensures adds { has_no_cycle key.now.descriptor ≡ true → (var : ℕ) → list_all (λ v. v == 0 || v == var) (taken key.now) ≡ true →
         (plan : List Step) × (is_plan key.now.descriptor 0 plan ≡ true)
         × (steps.new ≤ steps.old + 160 * walked_from compiled.now (G.meaning graph.now) key.now.descriptor plan 0 elem) }
+    ensures once { has_no_cycle key.now.descriptor ≡ true → (var : ℕ) → list_all (λ v. v == 0 || v == var) (taken key.now) ≡ true →
+        (pairs : List Stand) → HasSearched compiled.now (G.meaning graph.now) key.now.descriptor elem pairs →
+        OnOk result (steps.new ≤ steps.old + 1400 * sum_by (λ (stand : Stand). elem_degree (G.meaning graph.now) stand.elem + 2) pairs) }
 {
     let place = Place {
         graph,
@@ -91,7 +96,8 @@ pub fn key_values<G: GraphRead, L: Ledger>(
         pattern: key.pattern(Side::Descriptor),
     };
     let exprs = key.key().exprs.as_slice();
-    place.tuples(alloc, exprs, key.values(), 0, elem, steps)
+    let mut notes = Notes::new(alloc);
+    place.tuples(alloc, exprs, key.values(), 0, elem, &mut notes, steps)
 }
 
 /// The elements that x takes in the matches of a pattern of the key in which the variable takes the element, ascending and each once.
@@ -99,7 +105,8 @@ pub fn key_values<G: GraphRead, L: Ledger>(
 ///
 /// At every exit it has taken at most 16 * (d + 2)^(w + 1) look-ups, with w and d as for [`in_scope`], and it gives at most (d + 2)^w
 /// elements. Where the pattern has no cycle it takes at most 160 times the sum of the degrees plus 2 over all that walks along the pattern
-/// from the element at the variable come to, each counted once a walk.
+/// from the element at the variable come to, each counted once a walk; and, unless `Memory` comes, at most 1400 times the sum over the pairs
+/// of a variable and an element that these come to, each counted once. `Memory` also where an answer couldn't be noted for want of it.
 pub fn reach<G: GraphRead, L: Ledger>(
     alloc: Global,
     graph: &G,
@@ -120,6 +127,9 @@ pub fn reach<G: GraphRead, L: Ledger>(
         IfOk result (λ elems. length elems ≤ (most + 2) ^ most_edges key.now) }
     ensures adds { has_no_cycle (pattern_of side key.now) ≡ true → (plan : List Step) × (is_plan (pattern_of side key.now) var plan ≡ true)
         × (steps.new ≤ steps.old + 160 * walked_from compiled.now (G.meaning graph.now) (pattern_of side key.now) plan var elem) }
+    ensures once { has_no_cycle (pattern_of side key.now) ≡ true →
+        (pairs : List Stand) → HasSearchedFrom compiled.now (G.meaning graph.now) (pattern_of side key.now) var elem pairs →
+        OnOk result (steps.new ≤ steps.old + 1400 * sum_by (λ (stand : Stand). elem_degree (G.meaning graph.now) stand.elem + 2) pairs) }
 {
     let place = Place {
         graph,
@@ -127,7 +137,9 @@ pub fn reach<G: GraphRead, L: Ledger>(
         pattern: key.pattern(side),
     };
     let exprs = [Expr::Element(0)];
-    let tuples = place.tuples(alloc, &exprs, key.plan(side, var), var, elem, steps)?;
+    let plan = key.plan(side, var);
+    let mut notes = Notes::new(alloc);
+    let tuples = place.tuples(alloc, &exprs, plan, var, elem, &mut notes, steps)?;
     first_elems(alloc, tuples.as_slice())
 }
 

@@ -16,18 +16,21 @@ ghost use Rattle.pgs_match.specs.Near.{IsSparse};
 ghost use Rattle.pgs_match.specs.Planned.{most_edges};
 ghost use Rattle.pgs_match.specs.Plans.{is_plan};
 ghost use Rattle.pgs_match.specs.Spread.{stand_at, elem_degree};
-ghost use Rattle.pgs_match.specs.Learned.{IsLearned, IsTaken, HasSearched, is_short, unlearned};
+ghost use Rattle.pgs_match.specs.Learned.{IsLearned, IsTaken, IsWayTaken, HasSearched, is_short, unlearned};
 
 use crate::answers::Answers;
 use crate::branches::head;
+use crate::notes::Notes;
+use crate::paths::is_by_nodes;
+use crate::plan::copy_plan;
 use crate::remembering::Asking;
 use crate::searching::Place;
 use crate::trees::is_tree;
-use crate::{PlannedKey, Search, Side, Step, key_values};
+use crate::{Plan, PlannedKey, Search, Side, Step, key_values};
 use pgs_base::{Elem, List, Memory, Steps, TupleSet};
 use pgs_conform::Compiled;
 use pgs_graph::GraphRead;
-use pgs_syntax::Atom;
+use pgs_syntax::{Atom, Expr};
 use std::alloc::Global;
 use std::sync::ledger::Ledger;
 
@@ -38,11 +41,19 @@ pub(crate) struct Memo {
     answers: Answers,
 }
 
+/// The plan along which key values are searched from x, and what was noted along it.
+#[derive(Drop)]
+pub(crate) struct WayMemo {
+    plan: Plan,
+    notes: Notes,
+}
+
 /// What the searches of one key in one graph have learned of nodes at variables.
 #[derive(Drop)]
 pub struct Learned {
     alloc: Global,
     scope: Option<Memo>,
+    values: Option<WayMemo>,
 }
 
 impl Learned {
@@ -50,12 +61,17 @@ impl Learned {
     pub fn new(alloc: Global) -> Learned
         ensures { (resolved : Resolved) → (g : Graph) → (key : Key) → IsLearned resolved g key result }
     {
-        Learned { alloc, scope: None }
+        Learned {
+            alloc,
+            scope: None,
+            values: None,
+        }
     }
 
     // What was learned along a plan, taken out, or where nothing was, nothing along this plan.
     fn taken(&mut self, plan: &[Step]) -> Result<Memo, Memory>
         ensures none { self.new.scope ≡ None }
+        ensures others { self.new.values ≡ self.old.values }
         ensures memo { IfOk result (IsTaken self.old.scope plan.now) }
     {
         match self.scope.take() {
@@ -66,10 +82,25 @@ impl Learned {
             }),
         }
     }
+
+    // What was learned of key values, taken out, or where nothing was, nothing along this plan.
+    fn values_taken(&mut self, plan: &Plan) -> Result<WayMemo, Memory>
+        ensures none { self.new.values ≡ None }
+        ensures others { self.new.scope ≡ self.old.scope }
+        ensures memo { IfOk result (IsWayTaken self.old.values plan.now) }
+    {
+        match self.values.take() {
+            Some(memo) => Ok(memo),
+            None => Ok(WayMemo {
+                plan: copy_plan(self.alloc, plan)?,
+                notes: Notes::new(self.alloc),
+            }),
+        }
+    }
 }
 
 // Whether a plan has at most two steps, and no second one along edges: nothing hangs on a node but x, so that nothing would be noted.
-fn is_short(plan: &[Step]) -> bool
+pub(crate) fn is_short(plan: &[Step]) -> bool
     ensures { result ≡ is_short plan.now }
 {
     match head(plan) {
@@ -178,8 +209,14 @@ pub fn in_scope_learned<G: GraphRead, L: Ledger>(
     Ok(found)
 }
 
-/// The key values of an element, by what was learned of the same key in the same graph. So far nothing is learned of a descriptor. The
-/// key's types are those of the schema. `Memory` where none was left; what was learned is right then too.
+// Whether answers are noted along the way to what expressions take from x.
+fn is_noted_on_way(atoms: &[Atom], plan: &Plan, exprs: &[Expr]) -> bool {
+    is_by_nodes(plan, 0, exprs) && is_tree(atoms, plan.steps.as_slice())
+}
+
+/// The key values of an element, by what was learned of the same key in the same graph; what is learned anew is added, where the descriptor
+/// has no cycle and the expressions take one variable beside x. The key's types are those of the schema. `Memory` where none was left; what
+/// was learned is right then too.
 pub fn key_values_learned<G: GraphRead, L: Ledger>(
     alloc: Global,
     graph: &G,
@@ -199,5 +236,19 @@ pub fn key_values_learned<G: GraphRead, L: Ledger>(
     ensures few { (most : ℕ) → IsSparse (G.meaning graph.now) (most_edges key.now) elem most →
         IfOk result (λ tuples. length tuples ≤ (most + 2) ^ most_edges key.now) }
 {
-    key_values(alloc, graph, compiled, key, elem, steps)
+    let plan = key.values();
+    let exprs = key.key().exprs.as_slice();
+    let pattern = key.pattern(Side::Descriptor);
+    if !is_noted_on_way(pattern.atoms.as_slice(), plan, exprs) {
+        return key_values(alloc, graph, compiled, key, elem, steps);
+    }
+    let place = Place {
+        graph,
+        compiled,
+        pattern,
+    };
+    let mut memo = learned.values_taken(plan)?;
+    let tuples = place.tuples(alloc, exprs, &memo.plan, 0, elem, &mut memo.notes, steps)?;
+    learned.values = Some(memo);
+    Ok(tuples)
 }

@@ -5,9 +5,11 @@ ghost use Rattle.std.specs.List.{Contains, list_any, sum_by};
 ghost use Rattle.std.specs.List.Sorted.{IsStrictlySortedBy};
 ghost use Rattle.std.specs.BTreeMap.{is_at};
 ghost use Rattle.pgs_base.specs.Order.{ascends, elem_cmp};
+ghost use Rattle.pgs_base.specs.declared.element.NodeId.{NodeId};
 ghost use Rattle.pgs_syntax.specs.Matches.{same_elem};
+ghost use Rattle.pgs_match.specs.Frontier.{AreApart};
 
-use pgs_base::{Elem, List};
+use pgs_base::{Elem, List, NodeId};
 
 // Items in order, each once.
 fn each_once<T: Ord + Drop>(mut items: Vec<T>) -> List<T>
@@ -29,4 +31,14 @@ pub fn in_order(elems: Vec<Elem>) -> List<Elem>
     ensures few { (count : Elem → ℕ) → sum_by count result ≤ sum_by count elems.items }
 {
     each_once(elems)
+}
+
+/// Nodes in order, each once. Whatever is counted of each, the sum is no greater than before.
+pub(crate) fn nodes_in_order(ids: Vec<NodeId>) -> List<NodeId>
+    ensures kept { (id : NodeId) → Contains ids.items id → Contains result id }
+    ensures no_other { (id : NodeId) → Contains result id → Contains ids.items id }
+    ensures apart { AreApart result }
+    ensures few { (count : NodeId → ℕ) → sum_by count result ≤ sum_by count ids.items }
+{
+    each_once(ids)
 }

@@ -29,8 +29,19 @@ impl Drop for Plan {
     }
 }
 
-// The variable that an expression takes.
-fn read_var(expr: &Expr) -> u32
+/// A copy of a plan.
+pub(crate) fn copy_plan(alloc: Global, plan: &Plan) -> Result<Plan, Memory>
+    ensures { IfOk result (λ copy. copy ≡ plan.now) }
+{
+    Ok(Plan {
+        steps: List::from_slice(alloc, plan.steps.as_slice())?,
+        on: List::from_slice(alloc, plan.on.as_slice())?,
+        off: List::from_slice(alloc, plan.off.as_slice())?,
+    })
+}
+
+/// The variable that an expression takes.
+pub(crate) fn read_var(expr: &Expr) -> u32
     ensures { result ≡ read_var expr.now }
 {
     match expr {

@@ -1,22 +1,27 @@
 //! Searches from one variable of a pattern and an element.
 
-ghost use Rattle.std.specs.Prelude.{◌≡◌, ◌+◌, ◌*◌, ◌^◌, ◌<◌, ◌≤◌, ◌==◌, ◌||◌, ℕ, nat_lt, true, false, [], map, length, IfOk, OnSome};
+ghost use Rattle.std.specs.Prelude.{◌≡◌, ◌+◌, ◌*◌, ◌^◌, ◌<◌, ◌≤◌, ◌==◌, ◌||◌, ◌&&◌, ℕ, List as Items, nat_lt, true, false, [], map, length, IfOk, OnOk, OnSome};
 ghost use Rattle.std.specs.Option.{option_map_or};
-ghost use Rattle.std.specs.List.{list_any, list_all};
+ghost use Rattle.std.specs.List.{Contains, list_any, list_all, sum_by};
 ghost use Rattle.pgs_base.specs.Graph.{is_graph};
 ghost use Rattle.pgs_syntax.specs.Matches.{matches};
 ghost use Rattle.pgs_syntax.specs.Valid.{edge_count, read_var, is_valid_pattern, names_types};
+ghost use Rattle.pgs_match.specs.declared.stand.Stand.{Stand};
+ghost use Rattle.pgs_match.specs.Answers.{IsClosed};
+ghost use Rattle.pgs_match.specs.Frontier.{leads_to_one, AreNoted};
 ghost use Rattle.pgs_match.specs.Plans.{is_plan};
 ghost use Rattle.pgs_match.specs.Branches.{is_tree, walked_from};
 ghost use Rattle.pgs_match.specs.Learned.{is_short};
 ghost use Rattle.pgs_match.specs.Planned.{IsSplit};
-ghost use Rattle.pgs_match.specs.Spread.{elem_degree};
+ghost use Rattle.pgs_match.specs.Spread.{elem_degree, stand_at};
 ghost use Rattle.pgs_match.specs.Routes.{routed_from};
 ghost use Rattle.pgs_match.specs.Bounds.{with_bound, nothing_bound, stands_at};
 ghost use Rattle.pgs_match.specs.Near.{IsSparse};
 ghost use Rattle.pgs_match.specs.Search.{gathered};
 ghost use Rattle.pgs_match.specs.Tests.{admitted};
 
+use crate::notes::Notes;
+use crate::paths::is_by_nodes;
 use crate::trees::is_tree;
 use crate::ways::Way;
 use crate::{Bindings, Bound, Branch, Gathering, Plan, Search, Step};
@@ -118,7 +123,8 @@ impl<'a, G: GraphRead> Place<'a, G> {
 
     /// The tuples of expressions under the matches that have the element at the variable, by a plan from there. Where the plan has a step
     /// for each end of each edge place, the search goes along the way to what the expressions take, and of all else it is asked whether it
-    /// can be given.
+    /// can be given. Where it leads to one variable, each pair of a variable and an element is gone over once, by what was noted; `Memory` then
+    /// also where an answer couldn't be noted for want of it.
     pub(crate) fn tuples<L: Ledger>(
         &self,
         alloc: Global,
@@ -126,6 +132,7 @@ impl<'a, G: GraphRead> Place<'a, G> {
         plan: &Plan,
         var: u32,
         elem: Elem,
+        notes: &mut Notes,
         steps: &mut Steps<L>,
     ) -> Result<TupleSet, Memory>
         requires valid { is_valid_pattern self.now.pattern.now ≡ true }
@@ -134,11 +141,13 @@ impl<'a, G: GraphRead> Place<'a, G> {
         requires plan { IsSplit (map read_var exprs.now) self.now.pattern.now var plan.now }
         requires few_exprs { length exprs.now ≤ 16 }
         requires reads { list_all (λ (expr : Expr). nat_lt (read_var expr) (length self.now.pattern.now.edge_vars)) exprs.now ≡ true }
+        requires right { AreNoted self.now.compiled.now (G.meaning self.now.graph.now) self.now.pattern.now.atoms plan.now.off notes.old }
         ensures value { IfOk result (λ tuples. tuples ≡ option_map_or (λ bound. gathered self.now.compiled.now (G.meaning self.now.graph.now)
             self.now.pattern.now.atoms exprs.now plan.now.steps (with_bound nothing_bound var bound) [])
             (admitted self.now.compiled.now (G.meaning self.now.graph.now) self.now.pattern.now var elem) []) }
         ensures graph { OnSome (admitted self.now.compiled.now (G.meaning self.now.graph.now) self.now.pattern.now var elem)
             (is_graph (G.meaning self.now.graph.now) ≡ true) }
+        ensures right { AreNoted self.now.compiled.now (G.meaning self.now.graph.now) self.now.pattern.now.atoms plan.now.off notes.new }
         ensures no_step_back { steps.old ≤ steps.new }
         ensures cost { (w most : ℕ) → edge_count self.now.pattern.now.edge_vars ≤ w → IsSparse (G.meaning self.now.graph.now) w elem most →
             steps.new ≤ steps.old + 16 * (most + 2) ^ (w + 1) }
@@ -148,13 +157,19 @@ impl<'a, G: GraphRead> Place<'a, G> {
             + 80 * routed_from self.now.compiled.now (G.meaning self.now.graph.now) self.now.pattern.now (map read_var exprs.now) plan.now.steps var elem }
         ensures walks { is_tree self.now.pattern.now.atoms plan.now.steps ≡ true → (other : ℕ) → list_all (λ v. v == var || v == other) (map read_var exprs.now) ≡ true → steps.new ≤ steps.old
             + 160 * walked_from self.now.compiled.now (G.meaning self.now.graph.now) self.now.pattern.now plan.now.steps var elem }
+        ensures once { is_tree self.now.pattern.now.atoms plan.now.steps ≡ true → (other : ℕ) → list_all (λ v. v == var || v == other) (map read_var exprs.now) ≡ true →
+            (pairs : Items Stand) → Contains pairs (stand_at var elem) → IsClosed self.now.compiled.now (G.meaning self.now.graph.now) self.now.pattern.now.atoms pairs plan.now.steps →
+            OnOk result (steps.new ≤ steps.old + 1400 * sum_by (λ (stand : Stand). elem_degree (G.meaning self.now.graph.now) stand.elem + 2) pairs) }
     {
         let atoms = self.pattern.atoms.as_slice();
         let all = plan.steps.as_slice();
-        if is_tree(atoms, all) {
-            self.tuples_by_ways(alloc, exprs, plan, var, elem, steps)
+        if !is_tree(atoms, all) {
+            return self.tuples_by_all(alloc, exprs, all, var, elem, steps);
+        }
+        if is_by_nodes(plan, var, exprs) {
+            self.tuples_by_nodes(alloc, exprs, plan, var, elem, notes, steps)
         } else {
-            self.tuples_by_all(alloc, exprs, all, var, elem, steps)
+            self.tuples_by_ways(alloc, exprs, plan, var, elem, steps)
         }
     }
 
@@ -231,6 +246,8 @@ impl<'a, G: GraphRead> Place<'a, G> {
             + 80 * routed_from self.now.compiled.now (G.meaning self.now.graph.now) self.now.pattern.now (map read_var exprs.now) plan.now.steps var elem }
         ensures walks { (other : ℕ) → list_all (λ v. v == var || v == other) (map read_var exprs.now) ≡ true → steps.new ≤ steps.old
             + 160 * walked_from self.now.compiled.now (G.meaning self.now.graph.now) self.now.pattern.now plan.now.steps var elem }
+        ensures short { (is_short plan.now.on && length plan.now.off == 0) ≡ true → leads_to_one var plan.now.on exprs.now ≡ true →
+            steps.new ≤ steps.old + 440 * (elem_degree (G.meaning self.now.graph.now) elem + 2) }
     {
         let search = self.search();
         let mut tuples = TupleSet::new(alloc);
@@ -251,5 +268,56 @@ impl<'a, G: GraphRead> Place<'a, G> {
         };
         way.gather_with(admitted, &branch, &mut tuples, steps)?;
         Ok(tuples)
+    }
+
+    // The same along the way by nodes in order, where it leads to one variable.
+    fn tuples_by_nodes<L: Ledger>(
+        &self,
+        alloc: Global,
+        exprs: &[Expr],
+        plan: &Plan,
+        var: u32,
+        elem: Elem,
+        notes: &mut Notes,
+        steps: &mut Steps<L>,
+    ) -> Result<TupleSet, Memory>
+        requires valid { is_valid_pattern self.now.pattern.now ≡ true }
+        requires names { list_all (names_types self.now.compiled.now) self.now.pattern.now.atoms ≡ true }
+        requires in_range { var < length self.now.pattern.now.edge_vars }
+        requires plan { IsSplit (map read_var exprs.now) self.now.pattern.now var plan.now }
+        requires few_exprs { length exprs.now ≤ 16 }
+        requires reads { list_all (λ (expr : Expr). nat_lt (read_var expr) (length self.now.pattern.now.edge_vars)) exprs.now ≡ true }
+        requires tree { is_tree self.now.pattern.now.atoms plan.now.steps ≡ true }
+        requires one { leads_to_one var plan.now.on exprs.now ≡ true }
+        requires right { AreNoted self.now.compiled.now (G.meaning self.now.graph.now) self.now.pattern.now.atoms plan.now.off notes.old }
+        ensures value { IfOk result (λ tuples. tuples ≡ option_map_or (λ bound. gathered self.now.compiled.now (G.meaning self.now.graph.now)
+            self.now.pattern.now.atoms exprs.now plan.now.steps (with_bound nothing_bound var bound) [])
+            (admitted self.now.compiled.now (G.meaning self.now.graph.now) self.now.pattern.now var elem) []) }
+        ensures graph { OnSome (admitted self.now.compiled.now (G.meaning self.now.graph.now) self.now.pattern.now var elem)
+            (is_graph (G.meaning self.now.graph.now) ≡ true) }
+        ensures right { AreNoted self.now.compiled.now (G.meaning self.now.graph.now) self.now.pattern.now.atoms plan.now.off notes.new }
+        ensures no_step_back { steps.old ≤ steps.new }
+        ensures cost { (w most : ℕ) → edge_count self.now.pattern.now.edge_vars ≤ w → IsSparse (G.meaning self.now.graph.now) w elem most →
+            steps.new ≤ steps.old + 16 * (most + 2) ^ (w + 1) }
+        ensures few { (w most : ℕ) → edge_count self.now.pattern.now.edge_vars ≤ w → IsSparse (G.meaning self.now.graph.now) w elem most →
+            IfOk result (λ tuples. length tuples ≤ (most + 2) ^ w) }
+        ensures routes { steps.new ≤ steps.old
+            + 80 * routed_from self.now.compiled.now (G.meaning self.now.graph.now) self.now.pattern.now (map read_var exprs.now) plan.now.steps var elem }
+        ensures walks { (other : ℕ) → list_all (λ v. v == var || v == other) (map read_var exprs.now) ≡ true → steps.new ≤ steps.old
+            + 160 * walked_from self.now.compiled.now (G.meaning self.now.graph.now) self.now.pattern.now plan.now.steps var elem }
+        ensures once { (pairs : Items Stand) → Contains pairs (stand_at var elem) → IsClosed self.now.compiled.now (G.meaning self.now.graph.now) self.now.pattern.now.atoms pairs plan.now.steps →
+            OnOk result (steps.new ≤ steps.old + 1400 * sum_by (λ (stand : Stand). elem_degree (G.meaning self.now.graph.now) stand.elem + 2) pairs) }
+    {
+        let search = self.search();
+        let admitted = self.begin(&search, var, elem, steps);
+        let gathering = Gathering {
+            search,
+            exprs,
+            alloc,
+        };
+        let off = plan.off.as_slice();
+        let way = Way { gathering, off };
+        let on = plan.on.as_slice();
+        way.tuples_to_one(on, var, admitted, notes, steps)
     }
 }

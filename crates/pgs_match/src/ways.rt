@@ -70,7 +70,7 @@ impl<'a, G: GraphRead> Way<'a, G> {
     }
 
     // Adds the tuple under bindings of all variables on the way.
-    fn gather_one<L: Ledger>(
+    pub(crate) fn gather_one<L: Ledger>(
         &self,
         bindings: &Bindings,
         tuples: &mut TupleSet,

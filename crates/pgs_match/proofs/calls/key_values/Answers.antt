@@ -6,6 +6,7 @@ use Rattle.pgs_syntax.specs.declared.pattern.Expr.{Expr}
 use Rattle.pgs_syntax.specs.KeyValues.{key_values}
 use Rattle.pgs_syntax.specs.Valid.{read_var, edge_count}
 use Rattle.pgs_match.specs.declared.planned.Side.TheVariants.{Descriptor}
+use Rattle.pgs_match.specs.Answers.{IsClosed}
 use Rattle.pgs_match.specs.Branches.{is_tree, walked_from}
 use Rattle.pgs_match.specs.Planned.{most_edges, IsSplit}
 use Rattle.pgs_match.specs.Routes.{routed_from}
@@ -82,3 +83,17 @@ returns-clause-adds g c = λ acyclic var only.
           (c.tuples.ensures.walks (subst (λ p. is_tree p.atoms plan ≡ true) (sym c.pattern.ensures.pattern) tree) var
           (subst (λ exprs. list_all (λ v. v == 0 || v == var) (map read_var exprs) ≡ true) (sym (c.as_slice-exprs.ensures ∙ ap (λ k. k.exprs) c.key.ensures)) only)),
     )
+
+pub tuples-requires-clause-right : goal.tuples-requires-clause-right
+tuples-requires-clause-right g c = c.new-notes.ensures.right c.args.compiled.now (g.G.GraphRead.meaning c.args.graph.now) c.pattern.result.now.atoms c.values.result.now.off
+
+pub returns-clause-once : goal.returns-clause-once
+returns-clause-once g c = λ acyclic var only pairs searched.
+    let graph = g.G.GraphRead.meaning c.args.graph.now in
+    let key = c.args.key.now in
+    let plan = c.values.result.now.steps in
+    let valid = descriptor_valid key c.pattern.ensures.valid in
+    let tree = plan_is_tree key.descriptor valid acyclic 0 (some_variable key c.pattern.ensures.valid) plan c.values.ensures.0 in
+    c.tuples.ensures.once (subst (λ p. is_tree p.atoms plan ≡ true) (sym c.pattern.ensures.pattern) tree) var
+    (subst (λ exprs. list_all (λ v. v == 0 || v == var) (map read_var exprs) ≡ true) (sym (c.as_slice-exprs.ensures ∙ ap (λ k. k.exprs) c.key.ensures)) only) pairs searched.0
+    (subst (λ p. IsClosed c.args.compiled.now graph p.atoms pairs plan) (sym c.pattern.ensures.pattern) (searched.1 plan c.values.ensures.0))

@@ -1,12 +1,13 @@
 use Rattle.std.proofs.Common.{◌≡◌, true, sym, ◌∙◌, ap, subst, arith}
 use Rattle.std.specs.List.{list_any}
+use Rattle.std.specs.Option.{IfSome}
 use Rattle.pgs_syntax.specs.declared.pattern.Pattern.{Pattern}
 use Rattle.pgs_syntax.specs.Matches.{matches}
 use Rattle.pgs_syntax.specs.Valid.{is_valid_pattern}
 use Rattle.pgs_match.specs.Answers.{AreRight, IsClosed}
 use Rattle.pgs_match.specs.Bounds.{stands_at}
 use Rattle.pgs_match.specs.Branches.{is_tree}
-use Rattle.pgs_match.specs.Learned.{IsMemo, is_short}
+use Rattle.pgs_match.specs.Learned.{IsMemo, IsWayMemo, is_short}
 use Rattle.pgs_match.specs.Plans.{is_plan}
 use Rattle.pgs_match.proofs.Acyclic.{plan_is_tree}
 use Rattle.pgs_match.proofs.Learning.{short_left, taken_right, taken_owed}
@@ -54,7 +55,7 @@ has_match_by-found-requires-clause-plan g c =
     let tests = and_parts _ (is_tree c.as_slice-atoms.result.now plan) (sym c.is_noted.ensures ∙ c.if-not-is_noted.false) in
     let tree = subst (λ atoms. is_tree atoms plan ≡ true) demands tests.1 in
     let memo = c.in_ok-memo.memo in
-    let ready : IsMemo resolved graph key.scope memo = taken_right resolved graph key.scope c.args.learned.now.scope plan memo c.requires.learned c.in_ok-memo.ensures.memo plans tree in
+    let ready : IsMemo resolved graph key.scope memo = taken_right resolved graph key.scope c.args.learned.now.scope plan memo c.requires.learned.0 c.in_ok-memo.ensures.memo plans tree in
     subst (λ p. is_plan p 0 c.as_slice.result.now ≡ true) (sym same) (subst (λ steps. is_plan key.scope 0 steps ≡ true) (sym c.as_slice.ensures) ready.0)
 
 pub has_match_by-found-requires-clause-tree : goal.has_match_by-found-requires-clause-tree
@@ -69,7 +70,7 @@ has_match_by-found-requires-clause-tree g c =
     let tests = and_parts _ (is_tree c.as_slice-atoms.result.now plan) (sym c.is_noted.ensures ∙ c.if-not-is_noted.false) in
     let tree = subst (λ atoms. is_tree atoms plan ≡ true) demands tests.1 in
     let memo = c.in_ok-memo.memo in
-    let ready : IsMemo resolved graph key.scope memo = taken_right resolved graph key.scope c.args.learned.now.scope plan memo c.requires.learned c.in_ok-memo.ensures.memo plans tree in
+    let ready : IsMemo resolved graph key.scope memo = taken_right resolved graph key.scope c.args.learned.now.scope plan memo c.requires.learned.0 c.in_ok-memo.ensures.memo plans tree in
     subst (λ (p : Pattern). is_tree p.atoms c.as_slice.result.now ≡ true) (sym same) (subst (λ steps. is_tree key.scope.atoms steps ≡ true) (sym c.as_slice.ensures) ready.1)
 
 pub has_match_by-found-requires-clause-right : goal.has_match_by-found-requires-clause-right
@@ -84,7 +85,7 @@ has_match_by-found-requires-clause-right g c =
     let tests = and_parts _ (is_tree c.as_slice-atoms.result.now plan) (sym c.is_noted.ensures ∙ c.if-not-is_noted.false) in
     let tree = subst (λ atoms. is_tree atoms plan ≡ true) demands tests.1 in
     let memo = c.in_ok-memo.memo in
-    let ready : IsMemo resolved graph key.scope memo = taken_right resolved graph key.scope c.args.learned.now.scope plan memo c.requires.learned c.in_ok-memo.ensures.memo plans tree in
+    let ready : IsMemo resolved graph key.scope memo = taken_right resolved graph key.scope c.args.learned.now.scope plan memo c.requires.learned.0 c.in_ok-memo.ensures.memo plans tree in
     subst (λ (p : Pattern). AreRight resolved graph p.atoms c.as_slice.result.now memo.answers) (sym same)
     (subst (λ steps. AreRight resolved graph key.scope.atoms steps memo.answers) (sym c.as_slice.ensures) ready.2)
 
@@ -110,10 +111,10 @@ returns-clause-learned g c =
     let tests = and_parts _ (is_tree c.as_slice-atoms.result.now plan) (sym c.is_noted.ensures ∙ c.if-not-is_noted.false) in
     let tree = subst (λ atoms. is_tree atoms plan ≡ true) demands tests.1 in
     let memo = c.in_ok-memo.memo in
-    let ready : IsMemo resolved graph key.scope memo = taken_right resolved graph key.scope c.args.learned.now.scope plan memo c.requires.learned c.in_ok-memo.ensures.memo plans tree in
+    let ready : IsMemo resolved graph key.scope memo = taken_right resolved graph key.scope c.args.learned.now.scope plan memo c.requires.learned.0 c.in_ok-memo.ensures.memo plans tree in
     let right = subst (λ steps. AreRight resolved graph key.scope.atoms steps c.has_match_by-found.new.answers) c.as_slice.ensures
     (subst (λ (p : Pattern). AreRight resolved graph p.atoms c.as_slice.result.now c.has_match_by-found.new.answers) same c.has_match_by-found.ensures.right) in
-    (ready.0, ready.1, right)
+    ((ready.0, ready.1, right), subst (λ o. IfSome o (IsWayMemo resolved graph key)) (sym c.taken.ensures.others) c.requires.learned.1)
 
 pub returns-clause-once : goal.returns-clause-once
 returns-clause-once g c =
@@ -128,7 +129,7 @@ returns-clause-once g c =
     let tests = and_parts _ (is_tree c.as_slice-atoms.result.now plan) (sym c.is_noted.ensures ∙ c.if-not-is_noted.false) in
     let tree = subst (λ atoms. is_tree atoms plan ≡ true) demands tests.1 in
     let memo = c.in_ok-memo.memo in
-    let ready : IsMemo resolved graph key.scope memo = taken_right resolved graph key.scope c.args.learned.now.scope plan memo c.requires.learned c.in_ok-memo.ensures.memo plans tree in
+    let ready : IsMemo resolved graph key.scope memo = taken_right resolved graph key.scope c.args.learned.now.scope plan memo c.requires.learned.0 c.in_ok-memo.ensures.memo plans tree in
     let closed = subst (λ (p : Pattern). IsClosed resolved graph p.atoms pairs c.as_slice.result.now) (sym same)
     (subst (IsClosed resolved graph key.scope.atoms pairs) (sym c.as_slice.ensures) (searched.1 memo.plan ready.0)) in
     let paid = c.has_match_by-found.ensures.once pairs searched.0 closed c.if-is_full.false in
