@@ -4,7 +4,6 @@ pub mod Fields
 pub mod Lengths
 pub mod Loops
 pub mod Ops
-pub mod Ordering
 pub mod Sizes
 pub mod Snapshots
 pub mod SnapshotWalk

@@ -11,7 +11,7 @@ use Rattle.pgs_codec.specs.Reading.{Reading, pair_at, named_at, tested_at, many_
 use Rattle.pgs_codec.specs.Unread.{end_of}
 use Rattle.pgs_codec.specs.Walking.{is_after}
 use Rattle.pgs_codec.proofs.Exact.{same_given}
-use Rattle.pgs_codec.proofs.Ordering.{less_from}
+use Rattle.pgs_base_keyed.proofs.Ordering.{less_from}
 
 -- ---- what is made of a field that is there
 

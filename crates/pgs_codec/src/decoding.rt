@@ -10,10 +10,10 @@ ghost use Rattle.pgs_codec.specs.Unread.{Reads, Gives};
 
 use crate::Command;
 use crate::field::{Field, read_all};
-use crate::order::keys_ascend;
 use crate::reader::Reader;
 use crate::unread::Unread;
 use pgs_base::{EdgeId, EdgeRow, List, Memory, NodeId, NodeRow, Rows, edges_facts, nodes_facts};
+use pgs_base_keyed::keys_ascend;
 use pgs_graph::Txn;
 use std::alloc::Global;
 

@@ -13,7 +13,6 @@ mod field;
 mod framing;
 pub mod laws;
 mod operation;
-mod order;
 mod reader;
 mod row;
 mod unread;

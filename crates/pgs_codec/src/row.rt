@@ -7,10 +7,10 @@ ghost use Rattle.pgs_codec.specs.Reading.{counted_at, labels_at, props_at, node_
 ghost use Rattle.pgs_codec.specs.Unread.{Reads};
 
 use crate::field::{Field, read_all, size_of_all, write_all};
-use crate::order::{ascend, keys_ascend};
 use crate::reader::Reader;
 use crate::unread::Unread;
 use pgs_base::{EdgeId, EdgeRow, Labels, Memory, Name, NodeId, NodeRow, Props, Value};
+use pgs_base_keyed::{ascend, keys_ascend};
 use std::alloc::Global;
 
 /// Reads a count of two bytes, at most so much, and so many fields.

@@ -8,6 +8,7 @@
 
 mod compiled;
 mod fitting;
+mod joined_options;
 mod options;
 mod pair;
 pub mod samples;
@@ -16,6 +17,7 @@ mod walking;
 
 pub use compiled::Compiled;
 pub use fitting::{edge_fits, edge_typed, node_fits, node_typed};
+pub use joined_options::{free_options, join_options};
 pub use options::Options;
 pub use pair::{Pair, property_part};
 pub use shape::{Shape, Triple};

@@ -15,7 +15,7 @@ use Rattle.pgs_base.proofs.Lookups.{any-insert_key}
 use Rattle.pgs_syntax.proofs.Parts.{one_name}
 use Rattle.pgs_conform.specs.declared.options.Options.{Options}
 use Rattle.pgs_conform.specs.Shapes.{admits, admits_kind, labels_meet, props_meet}
-use Rattle.pgs_product.specs.JoinedOptions.{free_options, options_at}
+use Rattle.pgs_conform.specs.JoinedOptions.{free_options, options_at}
 use Rattle.pgs_product.proofs.Asked.{own_name, labels_met, labels_meet_from, has_found, entries_found, found_entries, props_met, props_meet_from}
 use Rattle.pgs_product.proofs.United.{name_cmp}
 use Rattle.pgs_contain.specs.Frames.{Names, Keys, text_alone, frame_labels, frame_keys, frame_options}

@@ -17,7 +17,7 @@ use Rattle.pgs_conform.specs.declared.shape.Shape.{Shape}
 use Rattle.pgs_conform.specs.declared.shape.Triple.{Triple as ShapeTriple}
 use Rattle.pgs_conform.specs.Shapes.{admits, labels_meet, in_triple, in_some_triple, DenotesTriples}
 use Rattle.pgs_product.proofs.United.{name_cmp}
-use Rattle.pgs_product.specs.JoinedOptions.{options_at}
+use Rattle.pgs_conform.specs.JoinedOptions.{options_at}
 use Rattle.pgs_contain.specs.declared.frame.Frame.{Frame}
 use Rattle.pgs_contain.specs.declared.triples.Frames.{Frames}
 use Rattle.pgs_contain.specs.declared.triples.OwnedTriple.{OwnedTriple}

@@ -8,7 +8,7 @@ use Rattle.pgs_base.specs.Pair.{same_name, has_name, put_name, is_pair}
 use Rattle.pgs_conform.specs.declared.options.Options.{Options}
 use Rattle.pgs_conform.specs.declared.shape.Shape.{Shape}
 use Rattle.pgs_conform.specs.Shapes.{labels_meet, in_shape, in_some}
-use Rattle.pgs_product.specs.JoinedOptions.{options_at}
+use Rattle.pgs_conform.specs.JoinedOptions.{options_at}
 use Rattle.pgs_contain.specs.Regions.{Point, in_region}
 use Rattle.pgs_contain.specs.declared.frame.Frame.{Frame}
 use Rattle.pgs_contain.specs.Contained.{is_plain}

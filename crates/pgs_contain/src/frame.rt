@@ -9,15 +9,14 @@ ghost use Rattle.pgs_base.specs.Order.{ascends};
 ghost use Rattle.pgs_base.specs.Pair.{same_name, has_name};
 ghost use Rattle.pgs_conform.specs.declared.options.Options.{Options as KeyOptions};
 ghost use Rattle.pgs_conform.specs.Shapes.{labels_meet};
-ghost use Rattle.pgs_product.specs.JoinedOptions.{options_at};
+ghost use Rattle.pgs_conform.specs.JoinedOptions.{options_at};
 ghost use Rattle.pgs_contain.specs.Frames.{text_alone, frame_labels, frame_keys, frame_options, options_of, may_have, in_some_of};
 ghost use Rattle.pgs_contain.specs.Regions.{Point, in_some_region, lies_in};
 
 use crate::options::is_within;
 use crate::vocabulary::Vocabulary;
 use pgs_base::{Copyable, Labels, List, Memory, Name};
-use pgs_conform::{Options, Shape};
-use pgs_product::free_options;
+use pgs_conform::{Options, Shape, free_options};
 use std::alloc::Global;
 
 /// The labels of what may be outside, the keys at which values may stand in it, and what may stand at each.

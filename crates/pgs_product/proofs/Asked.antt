@@ -14,7 +14,7 @@ use Rattle.pgs_base.specs.Pair.{same_name, has_name, value_at}
 use Rattle.pgs_syntax.proofs.Parts.{one_name}
 use Rattle.pgs_conform.specs.declared.options.Options.{Options}
 use Rattle.pgs_conform.specs.Shapes.{admits, admits_kind, labels_meet, props_meet}
-use Rattle.pgs_product.specs.JoinedOptions.{free_options, options_at}
+use Rattle.pgs_conform.specs.JoinedOptions.{free_options, options_at}
 use Rattle.pgs_product.proofs.Keyed.{absent_below}
 use Rattle.pgs_product.proofs.United.{name_cmp}
 

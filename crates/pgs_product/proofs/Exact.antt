@@ -20,7 +20,7 @@ use Rattle.pgs_syntax.proofs.Splits.{IsSplit, none, to_left, to_right, to_both, 
 use Rattle.pgs_conform.specs.declared.options.Options.{Options}
 use Rattle.pgs_conform.specs.declared.shape.Shape.{Shape}
 use Rattle.pgs_conform.specs.Shapes.{admits_kind, admits, labels_meet, props_meet, in_shape}
-use Rattle.pgs_product.specs.JoinedOptions.{free_options, joins_kind, joined_options, options_at}
+use Rattle.pgs_conform.specs.JoinedOptions.{free_options, joins_kind, joined_options, options_at}
 use Rattle.pgs_product.specs.Merged.{united, merged}
 use Rattle.pgs_product.proofs.Asked.{or_first, or_second, IsLabelMet, labels_met, labels_meet_from, has_all, props_met, props_meet_from, found_entries}
 use Rattle.pgs_product.proofs.Keyed.{absent_below, ascends_merged, options_merged}

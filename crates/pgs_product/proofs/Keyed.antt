@@ -8,7 +8,7 @@ use Rattle.pgs_base.specs.Order.{ascends}
 use Rattle.pgs_base.specs.Pair.{same_name}
 use Rattle.pgs_syntax.proofs.Parts.{one_name}
 use Rattle.pgs_conform.specs.declared.options.Options.{Options}
-use Rattle.pgs_product.specs.JoinedOptions.{free_options, joined_options, options_at}
+use Rattle.pgs_conform.specs.JoinedOptions.{free_options, joined_options, options_at}
 use Rattle.pgs_product.specs.Merged.{united, united_with, of_first, of_second, of_both, merged_with, merged}
 use Rattle.pgs_product.proofs.United.{name_cmp, same_of, after, before_all, ascends_united}
 

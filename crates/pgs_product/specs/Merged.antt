@@ -3,7 +3,7 @@ use Rattle.std.specs.Prelude.{ℕ, List, [], ◌∷◌, map}
 use Rattle.std.specs.Ordering.{nat_cmp, match_ordering}
 use Rattle.std.specs.Cmp.Lexicographic.{slice_cmp}
 use Rattle.pgs_conform.specs.declared.options.Options.{Options}
-use Rattle.pgs_product.specs.JoinedOptions.{joined_options}
+use Rattle.pgs_conform.specs.JoinedOptions.{joined_options}
 
 -- keys with what may stand at each
 abbrev pub Keys : Type 0

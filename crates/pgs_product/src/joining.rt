@@ -6,9 +6,8 @@ ghost use Rattle.pgs_conform.specs.Shapes.{in_shape};
 
 use crate::keys::join_keys;
 use crate::labels::unite;
-use crate::options::free_options;
 use pgs_base::{List, Memory};
-use pgs_conform::Shape;
+use pgs_conform::{Shape, free_options};
 use std::alloc::Global;
 
 /// The exact product of two shapes: a pair is in it exactly where it is the join of a pair of the first with a pair of the second.

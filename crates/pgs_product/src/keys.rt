@@ -1,9 +1,8 @@
 ghost use Rattle.std.specs.Prelude.{◌≡◌, ◌∷◌, [], ◌++◌, map, IfOk, OnOk};
 ghost use Rattle.pgs_product.specs.Merged.{of_first, of_second, merged};
 
-use crate::options::join_options;
 use pgs_base::{Copyable, Memory, Name};
-use pgs_conform::Options;
+use pgs_conform::{Options, join_options};
 use std::alloc::Global;
 use std::cmp::Ordering;
 

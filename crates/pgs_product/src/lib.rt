@@ -11,7 +11,6 @@ mod joining;
 mod keys;
 mod labels;
 mod lists;
-mod options;
 mod triple_lists;
 mod triples;
 
@@ -20,6 +19,5 @@ pub use empty::empty_shape;
 pub use joining::product;
 pub use keys::join_keys;
 pub use lists::{product_of_all, products};
-pub use options::{free_options, join_options};
 pub use triple_lists::{triple_product_of_all, triple_products};
 pub use triples::{copy_triple, copy_triples, middle_triple, triple_product};

@@ -20,7 +20,7 @@ use Rattle.pgs_syntax.specs.Join.{is_empty}
 use Rattle.pgs_syntax.proofs.Parts.{one_name}
 use Rattle.pgs_conform.specs.declared.options.Options.{Options}
 use Rattle.pgs_conform.specs.Shapes.{admits, admits_kind, labels_meet, props_meet}
-use Rattle.pgs_product.specs.JoinedOptions.{free_options, joins_kind, joined_options}
+use Rattle.pgs_conform.specs.JoinedOptions.{free_options, joins_kind, joined_options}
 use Rattle.pgs_product.specs.Merged.{merged}
 use Rattle.pgs_product.proofs.Asked.{AreApart, apart_ascending, props_meet_same}
 use Rattle.pgs_product.proofs.Exact.{same_answer}

@@ -10,8 +10,8 @@ ghost use Rattle.pgs_conform.specs.Shapes.{in_shape};
 ghost use Rattle.pgs_shapes.specs.Properties.{are_apart, property_options, key_of};
 
 use pgs_base::{Copyable, Kind, Labels, List, Memory, Name};
-use pgs_conform::{Options, Shape};
-use pgs_product::{free_options, join_keys};
+use pgs_conform::{Options, Shape, free_options};
+use pgs_product::join_keys;
 use pgs_syntax::{Braces, Property};
 use std::alloc::Global;
 

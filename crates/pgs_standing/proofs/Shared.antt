@@ -11,7 +11,7 @@ use Rattle.pgs_syntax.proofs.Parts.{one_name}
 use Rattle.pgs_conform.specs.declared.options.Options.{Options}
 use Rattle.pgs_conform.specs.declared.shape.Shape.{Shape}
 use Rattle.pgs_conform.specs.Shapes.{admits, labels_meet, props_meet, in_shape}
-use Rattle.pgs_product.specs.JoinedOptions.{free_options, options_at}
+use Rattle.pgs_conform.specs.JoinedOptions.{free_options, options_at}
 use Rattle.pgs_product.proofs.Asked.{all_has, has_all, labels_met, labels_meet_from, props_met, props_meet_from}
 use Rattle.pgs_product.proofs.Exact.{same_answer}
 use Rattle.pgs_product.proofs.United.{name_cmp}

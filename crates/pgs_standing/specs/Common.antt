@@ -10,7 +10,7 @@ use Rattle.pgs_conform.specs.declared.options.Options.{Options}
 use Rattle.pgs_conform.specs.declared.shape.Shape.{Shape}
 use Rattle.pgs_conform.specs.declared.shape.Triple.{Triple as ShapeTriple}
 use Rattle.pgs_conform.specs.Shapes.{in_shape, in_triple, in_some}
-use Rattle.pgs_product.specs.JoinedOptions.{options_at}
+use Rattle.pgs_conform.specs.JoinedOptions.{options_at}
 use Rattle.pgs_contain.specs.Regions.{common_options, is_possible, plainest}
 use Rattle.pgs_contain.specs.Rows.{row_before}
 

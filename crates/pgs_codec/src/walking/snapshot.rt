@@ -7,12 +7,12 @@ ghost use Rattle.pgs_codec.specs.Reading.{named_at, tested_at, many_at, node_id,
 ghost use Rattle.pgs_codec.specs.Unread.{Sees, Passes, Reads, Gives, end_of};
 ghost use Rattle.pgs_codec.specs.Walking.{is_after, node_ids_at, edge_id_in, edge_ids_in, kind_behind};
 
-use crate::order::ascend;
 use crate::reader::Reader;
 use crate::unread::{Unfit, Unread};
 use crate::walking::payload::PayloadKind;
 use crate::walking::row::walk_row;
 use pgs_base::{EdgeId, NodeId, Ordered};
+use pgs_base_keyed::ascend;
 use std::alloc::Global;
 
 // The number of a node, past its row.

@@ -1,5 +1,5 @@
 use Rattle.std.proofs.Common.{◌≡◌, length}
-use Rattle.pgs_product.specs.JoinedOptions.{options_at}
+use Rattle.pgs_conform.specs.JoinedOptions.{options_at}
 use Rattle.pgs_contain.proofs.frame.options_at.Given as goal
 
 abbrev pub invariant-loop-left : goal.invariant-loop-left

@@ -1,6 +1,6 @@
 use Rattle.std.proofs.Common.{ap, sym, ◌∙◌, is_lt}
-use Rattle.pgs_codec.proofs.Ordering.{in_order_more, not_in_order, all_in_order}
-use Rattle.pgs_codec.proofs.order.ascend.Goals as goal
+use Rattle.pgs_base_keyed.proofs.Ordering.{in_order_more, not_in_order, all_in_order}
+use Rattle.pgs_base_keyed.proofs.order.ascend.Goals as goal
 
 pub returns-then-not-is_lt : goal.returns-then-not-is_lt
 returns-then-not-is_lt g c =

@@ -1,7 +1,7 @@
 use Rattle.std.proofs.Common.{◌-◌, ◌<◌, ◌≤◌, length, ap, sym, ◌∙◌, get_or, is_lt, arith}
 use Rattle.std.specs.Map.{keys_of}
-use Rattle.pgs_codec.proofs.Ordering.{in_order_more, not_in_order, all_in_order, key_at, keys_length}
-use Rattle.pgs_codec.proofs.order.keys_ascend.Goals as goal
+use Rattle.pgs_base_keyed.proofs.Ordering.{in_order_more, not_in_order, all_in_order, key_at, keys_length}
+use Rattle.pgs_base_keyed.proofs.order.keys_ascend.Goals as goal
 
 pub returns-then-not-is_lt : goal.returns-then-not-is_lt
 returns-then-not-is_lt g c =

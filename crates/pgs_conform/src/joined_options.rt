@@ -1,7 +1,7 @@
 ghost use Rattle.std.specs.Prelude.{◌≡◌};
-ghost use Rattle.pgs_product.specs.JoinedOptions.{free_options, joins_kind, joined_options};
+ghost use Rattle.pgs_conform.specs.JoinedOptions.{free_options, joins_kind, joined_options};
 
-use pgs_conform::Options;
+use crate::Options;
 
 /// What may stand at a key that is not named: nothing, and with `more` any value.
 pub fn free_options(more: bool) -> Options

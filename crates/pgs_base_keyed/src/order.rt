@@ -3,7 +3,7 @@ ghost use Rattle.std.specs.Map.{keys_of};
 ghost use Rattle.pgs_base.specs.Order.{ascends};
 
 /// Whether keys ascend strictly.
-pub(crate) fn ascend<K: Ord>(keys: &[K]) -> bool
+pub fn ascend<K: Ord>(keys: &[K]) -> bool
     ensures { result ≡ ascends K.cmp keys.now }
 {
     for place in 1..keys.len() {
@@ -15,7 +15,7 @@ pub(crate) fn ascend<K: Ord>(keys: &[K]) -> bool
 }
 
 /// Whether the keys of rows ascend strictly.
-pub(crate) fn keys_ascend<K: Ord, V>(rows: &[(K, V)]) -> bool
+pub fn keys_ascend<K: Ord, V>(rows: &[(K, V)]) -> bool
     ensures { result ≡ ascends K.cmp (keys_of rows.now) }
 {
     for place in 1..rows.len() {
