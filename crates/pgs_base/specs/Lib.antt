@@ -9,6 +9,7 @@ pub mod Options
 pub mod Order
 pub mod OrderLaws
 pub mod Pair
+pub mod Parts
 pub mod Places
 pub mod Properties
 pub mod Seed

@@ -192,7 +192,7 @@ pub fn spread<G: GraphRead, L: Ledger>(
 fn first_elem(tuple: &Tuple) -> Option<Elem>
     ensures { result ≡ first_elem tuple.now }
 {
-    match tuple.parts().as_slice().first() {
+    match tuple.parts().first() {
         Some(Part::Elem(elem)) => Some(*elem),
         _ => None,
     }
