@@ -14,7 +14,7 @@ ghost use Rattle.pgs_syntax.specs.declared.resolved.Resolved.{Resolved};
 ghost use Rattle.pgs_run_words.specs.declared.command.Command.TheVariants.{Contain, Load, Recover, Validate};
 ghost use Rattle.pgs_world.specs.Moment.{IsSettled};
 ghost use Rattle.pgs_world.specs.World.{Triple};
-ghost use Rattle.pgs_run_load.specs.Told.{line_of};
+ghost use Rattle.pgs_run_renewal.specs.LoadTold.{line_of};
 ghost use Rattle.pgs_run_store.specs.Refusing.{SavedStore};
 ghost use Rattle.pgs_run_lines.specs.Pieces.{ShowsAll, shown_of};
 ghost use Rattle.pgs_store.specs.Loads.{FindsNone};
