@@ -101,7 +101,7 @@ pub fn what_is_contained_is_kept<W: World>()
     ensures { (input : List ℕ) (lost : ℕ) (old new : W) → length input < BUDGET
         → (ran : Ran Contain input lost (W.view old) (W.view new)) → ran.status ≡ Accepted → IsCompared input }
 {
-    pgs_schema_order::laws::what_asks_no_more_is_kept();
+    pgs_schema_changes::laws::what_asks_no_more_is_kept();
 }
 
 /// A crash inside a run of `apply`, `checkpoint` or `evolve`, which began on a world that tells its bytes and output and on which nothing is

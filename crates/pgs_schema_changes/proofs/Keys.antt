@@ -35,9 +35,9 @@ use Rattle.pgs_syntax.proofs.Parts.{one_name}
 use Rattle.pgs_violation.specs.declared.violation.Violation.{Violation}
 use Rattle.pgs_violation.specs.declared.violation.Violation.TheVariants.{Singleton, Exclusive}
 use Rattle.pgs_violation.specs.Violations.{two_least, sharing, shared_tuple, is_within}
-use Rattle.pgs_schema_order.specs.AsksNoMore.{same_atom, names_alike, same_pattern, patterns_alike, same_expr, same_key, keys_alike, counts_no_more, keeps}
-use Rattle.pgs_schema_order.specs.Unfolded.{node_tree, edge_tree, same_tree}
-use Rattle.pgs_schema_order.proofs.Alike.{one_kind, one_by_one, alike_nodes, alike_edges}
+use Rattle.pgs_schema_changes.specs.AsksNoMore.{same_atom, names_alike, same_pattern, patterns_alike, same_expr, same_key, keys_alike, counts_no_more, keeps}
+use Rattle.pgs_schema_changes.specs.Unfolded.{node_tree, edge_tree, same_tree}
+use Rattle.pgs_schema_changes.proofs.Alike.{one_kind, one_by_one, alike_nodes, alike_edges}
 
 -- ---- a place in a list
 

@@ -15,8 +15,8 @@ use Rattle.pgs_syntax.specs.declared.specification.Property.{Property}
 use Rattle.pgs_syntax.specs.declared.specification.Spec as specs
 use Rattle.pgs_syntax.specs.declared.specification.Spec.{Spec, Empty, Word, OpenLabels, And', Or', Opt', Row_of-Spec, end_of-Spec, more_of-Spec}
 use Rattle.pgs_syntax.specs.Valid.{are_one_kind}
-use Rattle.pgs_schema_order.specs.declared.form.Form.{Form}
-use Rattle.pgs_schema_order.specs.declared.form.Form.TheVariants as forms
+use Rattle.pgs_schema_changes.specs.declared.form.Form.{Form}
+use Rattle.pgs_schema_changes.specs.declared.form.Form.TheVariants as forms
 
 -- an unfolded declaration: nothing, or a form over two others
 pub data Tree : Type 0 where

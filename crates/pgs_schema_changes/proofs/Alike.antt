@@ -24,9 +24,9 @@ use Rattle.pgs_syntax.specs.Numbered.{passes_below}
 use Rattle.pgs_syntax.specs.Valid.{are_one_kind}
 use Rattle.pgs_syntax.proofs.Halves.{joined_same}
 use Rattle.pgs_syntax.proofs.Parts.{one_name}
-use Rattle.pgs_schema_order.specs.declared.form.Form.{Form}
-use Rattle.pgs_schema_order.specs.declared.form.Form.TheVariants as forms
-use Rattle.pgs_schema_order.specs.Unfolded.{Tree, nothing, tree, unfolded, unfolded_parts, tree_below, node_tree_of, node_tree, edge_tree_of, edge_tree, same_property, same_braces, same_form, same_tree}
+use Rattle.pgs_schema_changes.specs.declared.form.Form.{Form}
+use Rattle.pgs_schema_changes.specs.declared.form.Form.TheVariants as forms
+use Rattle.pgs_schema_changes.specs.Unfolded.{Tree, nothing, tree, unfolded, unfolded_parts, tree_below, node_tree_of, node_tree, edge_tree_of, edge_tree, same_property, same_braces, same_form, same_tree}
 
 -- ---- what is told to be one is one
 

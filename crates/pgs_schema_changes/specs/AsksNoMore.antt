@@ -20,7 +20,7 @@ use Rattle.pgs_syntax.specs.Matches.{same_value}
 use Rattle.pgs_syntax.specs.Typed.{is_concrete_node_type, is_concrete_edge_type}
 use Rattle.pgs_syntax.specs.Valid.{are_one_kind}
 use Rattle.pgs_contain.specs.Contained.{IsContained}
-use Rattle.pgs_schema_order.specs.Unfolded.{node_tree, edge_tree, same_tree}
+use Rattle.pgs_schema_changes.specs.Unfolded.{node_tree, edge_tree, same_tree}
 
 -- ---- types
 
