@@ -16,8 +16,8 @@ use Rattle.pgs_syntax.specs.Fitting.{fits_node, fits_edge}
 use Rattle.pgs_syntax.specs.Join.{PairTriple}
 use Rattle.pgs_syntax.specs.Typed.{types_node, types_edge, is_typed_node, is_typed_triple, is_concrete_node_type, is_concrete_edge_type}
 use Rattle.pgs_syntax.proofs.Halves.{any_same}
-use Rattle.pgs_kinds.specs.Kinds.{have_one_kind, looks_same, triple_looks_same}
-use Rattle.pgs_kinds.proofs.Plain.{plain_of, plain_entry, plain, plain_triple, node_plain, edge_plain}
+use Rattle.pgs_conform.specs.Kinds.{have_one_kind, looks_same, triple_looks_same}
+use Rattle.pgs_conform.proofs.Plain.{plain_of, plain_entry, plain, plain_triple, node_plain, edge_plain}
 
 one_kind : (a b : Kind) → kind_rank a ≡ kind_rank b → a ≡ b
 one_kind kinds.Text kinds.Text h = refl

@@ -1,5 +1,5 @@
-use Rattle.pgs_kinds.proofs.Compared.{node_same, edge_same, typed_node_same, typed_edge_same}
-use Rattle.pgs_kinds.proofs.laws.types_see_no_values.Goals as goal
+use Rattle.pgs_conform.proofs.Compared.{node_same, edge_same, typed_node_same, typed_edge_same}
+use Rattle.pgs_conform.proofs.laws.types_see_no_values.Goals as goal
 
 pub returns-clause-nodes : goal.returns-clause-nodes
 returns-clause-nodes c = λ resolved p q same number. node_same resolved p q same number

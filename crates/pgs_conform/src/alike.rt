@@ -3,10 +3,10 @@
 ghost use Rattle.std.specs.Prelude.{◌≡◌};
 ghost use Rattle.std.specs.Cmp.Lexicographic.{pointwise};
 ghost use Rattle.pgs_base.specs.Value.{is_of_kind, kind_of};
-ghost use Rattle.pgs_kinds.specs.Kinds.{have_one_kind, looks_same};
+ghost use Rattle.pgs_conform.specs.Kinds.{have_one_kind, looks_same};
 
+use crate::Pair;
 use pgs_base::{Name, Value};
-use pgs_conform::Pair;
 
 // Whether two values are of one kind.
 fn are_of_one_kind(value: &Value, other: &Value) -> bool
@@ -36,7 +36,7 @@ fn have_same_kinds(props: &[(Name, Value)], others: &[(Name, Value)]) -> bool
 
 /// Whether two pairs look the same to types: they have the same labels and the same keys, with values of one kind at each key. It
 /// compares them name by name, and takes no memory. What that says of types is `laws::types_see_no_values`; the rule is `looks_same` in
-/// `specs/Kinds.antt` of `pgs_kinds`.
+/// `specs/Kinds.antt`.
 pub fn looks_same(own: &Pair<'_>, other: &Pair<'_>) -> bool
     ensures { result ≡ looks_same own.now other.now }
 {

@@ -6,7 +6,7 @@ ghost use Rattle.pgs_syntax.specs.declared.resolved.Resolved.{Resolved};
 ghost use Rattle.pgs_syntax.specs.Fitting.{fits_node, fits_edge};
 ghost use Rattle.pgs_syntax.specs.Join.{PairTriple};
 ghost use Rattle.pgs_syntax.specs.Typed.{is_typed_node, is_typed_triple};
-ghost use Rattle.pgs_kinds.specs.Kinds.{looks_same, triple_looks_same};
+ghost use Rattle.pgs_conform.specs.Kinds.{looks_same, triple_looks_same};
 
 /// Pairs that look the same fit the same node types, and triples that do, pair by pair, the same edge types. So one is typed exactly
 /// where the other is.
