@@ -19,7 +19,7 @@ use pgs_base::{Bytes, Name};
 use pgs_command::{Status, status_at};
 use pgs_graph::GraphRead;
 use pgs_run_contain::names_in_both;
-use pgs_run_evolve::old_format_line;
+use pgs_run_renewal::old_format_line;
 use pgs_run_lines::{Stop, put_last, put_pieces};
 use pgs_run_refusal::refused_lines;
 use pgs_run_try::{graph_violations, put_all_listed};
