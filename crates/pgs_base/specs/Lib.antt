@@ -2,6 +2,7 @@ pub mod Day
 pub mod DayForm
 pub mod Graph
 pub mod Kept
+pub mod LabelNames
 pub mod Name
 pub mod NameBytes
 pub mod Names
