@@ -74,8 +74,9 @@ impl Tables {
         ensures { IfOk result (λ lists. lists ≡ touched_edges self.now.graph delta.now) }
     {
         let nodes = delta.nodes.as_slice();
-        let changes = delta.nodes.len().saturating_add(delta.edges.len());
-        let mut touched = Keyed::new(self.alloc, changes);
+        // A changed edge has two ends, and seldom others than before.
+        let ends = delta.edges.len().saturating_mul(2);
+        let mut touched = Keyed::new(self.alloc, ends);
         self.relist_edges(&mut touched, nodes, delta.edges.as_slice())?;
         list_of(self.alloc, touched)
     }
