@@ -36,7 +36,7 @@ use Rattle.pgs_command.specs.Spec.{CommandSpec}
 use Rattle.pgs_command.specs.Words.{refused_words}
 use Rattle.pgs_run_apply.specs.Run.{IsDecided, IsPutBy, Saves}
 use Rattle.pgs_run_apply.specs.Told.{after, all_lines, last_piece, lost_pieces, start, told_apply, told_lines, verdicts, with_last}
-use Rattle.pgs_run_apply_rule.specs.State.{status_after}
+use Rattle.pgs_run_apply.specs.State.{status_after}
 use Rattle.pgs_run_renewal.specs.CheckpointLeaving.{IsRenewed, IsTorn}
 use Rattle.pgs_run_renewal.specs.CheckpointLeaving.{IsUnput as IsUnrenewed}
 use Rattle.pgs_run_renewal.specs.CheckpointTold.{told_by, told_checkpoint}

@@ -22,7 +22,7 @@ use Rattle.pgs_violation.specs.Meaning.{IsKeyOf}
 use Rattle.pgs_violation.specs.Violations.{violations, conforms, two_least, exclusive_violation, later_than, is_within}
 use Rattle.pgs_violation.proofs.Origins.{Origin, of_node, of_edge, missing, several, shared, counted, origin, listed}
 use Rattle.pgs_schema_changes.specs.AsksNoMore.{AsksNoMore, keeps, is_kept}
-use Rattle.pgs_schema_changes.proofs.Keys.{at_place, has_place, some_item, each_item, qualifiers_kept, scope_same, values_same, two_again, shared_again, narrower}
+use Rattle.pgs_schema_changes.proofs.KeptKeys.{at_place, has_place, some_item, each_item, qualifiers_kept, scope_same, values_same, two_again, shared_again, narrower}
 use Rattle.pgs_schema_changes.proofs.Types.{node_pair, node_typed, edge_typed}
 
 unless : (b : Bool) (u v : Violation) → cond b None (Some u) ≡ Some v → b ≡ false

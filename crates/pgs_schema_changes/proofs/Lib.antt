@@ -1,6 +1,6 @@
 pub mod Alike
 pub mod Kept
-pub mod Keys
+pub mod KeptKeys
 pub mod Numbering
 pub mod Pairs
 pub mod Steps

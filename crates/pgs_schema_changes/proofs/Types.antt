@@ -19,7 +19,7 @@ use Rattle.pgs_syntax.specs.Triples.{is_triple}
 use Rattle.pgs_syntax.specs.Typed.{is_typed_node, is_typed_edge, is_typed_triple, types_node, types_edge, triple_at}
 use Rattle.pgs_syntax.proofs.Carried.{carried_pair}
 use Rattle.pgs_schema_changes.specs.AsksNoMore.{AreTypesContained}
-use Rattle.pgs_schema_changes.proofs.Keys.{some_item, each_item}
+use Rattle.pgs_schema_changes.proofs.KeptKeys.{some_item, each_item}
 
 map_found : {X Y : Type 0} (f : X → Y) (o : Option X) (y : Y) → option_map f o ≡ Some y → (x : X) × (o ≡ Some x) × (f x ≡ y)
 map_found f None y e = cc

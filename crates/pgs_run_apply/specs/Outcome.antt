@@ -22,7 +22,7 @@ use Rattle.pgs_command.specs.Images.{KeepsArea}
 use Rattle.pgs_run_input.specs.Answers.{txn_answer}
 use Rattle.pgs_run_input.specs.Input.{is_skipped}
 use Rattle.pgs_run_input.specs.Session.{standard, decision_on}
-use Rattle.pgs_run_apply_rule.specs.State.{ApplyState, HoldsStore, with_refusal, with_commit}
+use Rattle.pgs_run_apply.specs.State.{ApplyState, HoldsStore, with_refusal, with_commit}
 
 -- the state after lines, what they tell, and what they give to feeds, behind how many of these pieces
 pub record Outcome : Type 0 where

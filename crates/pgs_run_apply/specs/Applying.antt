@@ -10,8 +10,8 @@ use Rattle.pgs_world.specs.World.{Triple, other}
 use Rattle.pgs_command.specs.declared.status.Status.{Status}
 use Rattle.pgs_command.specs.declared.status.Status.TheVariants as statuses
 use Rattle.pgs_command.specs.Images.{KeepsArea}
-use Rattle.pgs_run_apply_rule.specs.Outcome.{IsPast, IsReached, IsSavedAt, outcome_of, outcome_of_all}
-use Rattle.pgs_run_apply_rule.specs.State.{ApplyState, status_after}
+use Rattle.pgs_run_apply.specs.Outcome.{IsPast, IsReached, IsSavedAt, outcome_of, outcome_of_all}
+use Rattle.pgs_run_apply.specs.State.{ApplyState, status_after}
 
 -- a fault of a read doesn't come of it
 abbrev pub MayStop : Stop Status → Type 0

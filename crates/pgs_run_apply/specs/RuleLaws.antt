@@ -26,9 +26,9 @@ use Rattle.pgs_violation.specs.Violations.{verdict}
 use Rattle.pgs_run_input.specs.Answers.{txn_answer}
 use Rattle.pgs_run_input.specs.Input.{is_skipped}
 use Rattle.pgs_run_input.specs.Session.{decision_on}
-use Rattle.pgs_run_apply_rule.specs.Applying.{Applies, AreReached, IsLeft, IsWithin, applying, is_all, seen, stop_in}
-use Rattle.pgs_run_apply_rule.specs.Outcome.{Outcome, HasPut, IsPast, IsReached, IsSavedAt, and_then, answering, deciding, is_torn, outcome_of, outcome_of_all, skipping}
-use Rattle.pgs_run_apply_rule.specs.State.{ApplyState, HoldsStore}
+use Rattle.pgs_run_apply.specs.Applying.{Applies, AreReached, IsLeft, IsWithin, applying, is_all, seen, stop_in}
+use Rattle.pgs_run_apply.specs.Outcome.{Outcome, HasPut, IsPast, IsReached, IsSavedAt, and_then, answering, deciding, is_torn, outcome_of, outcome_of_all, skipping}
+use Rattle.pgs_run_apply.specs.State.{ApplyState, HoldsStore}
 
 -- ---- one outcome after another
 
