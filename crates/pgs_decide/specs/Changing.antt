@@ -4,7 +4,7 @@ use Rattle.pgs_decide.specs.declared.deciding.Decided.{Decided}
 use Rattle.pgs_keyindex.specs.Index.{IndexState}
 use Rattle.pgs_tables.specs.Adjacency.{Suits}
 use Rattle.pgs_tables.specs.Standing.{TablesState}
-use Rattle.pgs_store.specs.declared.changing.Ready.{Ready}
+use Rattle.pgs_decide.specs.declared.changing.Ready.{Ready}
 
 -- both are ready for their part of it
 pub record AreReady (tables : TablesState) (index : IndexState) (ready : Ready) : Type 0 where
