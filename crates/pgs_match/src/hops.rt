@@ -22,13 +22,15 @@ use crate::completion::end_of;
 use crate::frontier::Frontier;
 use crate::notes::{Hop, Notes};
 use crate::ordered::nodes_in_order;
+use crate::plan::is_left;
 use crate::reads::edge_along;
 use pgs_base::{EdgeId, List, Memory, NodeId, Steps};
 use pgs_graph::GraphRead;
 use std::sync::ledger::Ledger;
 
 impl<'a, G: GraphRead> Frontier<'a, G> {
-    /// Whether a node is admitted at a variable on the way and can be given all that hangs there off the way. What is found is noted.
+    /// Whether a node is admitted at a variable on the way and can be given all that hangs there off the way. What is found is noted,
+    /// but where nothing hangs there.
     pub(crate) fn is_kept<L: Ledger>(
         &self,
         var: u32,
@@ -48,6 +50,9 @@ impl<'a, G: GraphRead> Frontier<'a, G> {
             (is_some (admitted_node self.now.asking.search.compiled.now (G.meaning self.now.asking.search.graph.now) self.now.asking.search.atoms.now var id) ≡ true → Contains pairs (stand_at var (Elem.Node id))) →
             IsPaidOn (G.meaning self.now.asking.search.graph.now) pairs notes.old notes.new steps.old steps.new 1 }
     {
+        if !is_left(self.asking.whole, var) {
+            return self.asking.search.admit_node(var, id, steps).is_some();
+        }
         match notes.on.of(var, id) {
             Some(answer) => answer,
             None => {
