@@ -15,6 +15,7 @@ use Rattle.pgs_match.specs.Tests.{admitted}
 use Rattle.pgs_match.proofs.ToOne.{values_taken_right}
 use Rattle.pgs_match.proofs.Values.{descriptor_valid, gathered_are_values}
 use Rattle.pgs_match.proofs.Scopes.{some_variable, side_edges}
+use Rattle.pgs_match.proofs.Typed.{has_x, names}
 use Rattle.pgs_match.proofs.learned.key_values_learned.Goals as goal
 
 pub tuples-requires-clause-plan : goal.tuples-requires-clause-plan
@@ -122,3 +123,9 @@ pub tuples-requires-clause-few_exprs : goal.tuples-requires-clause-few_exprs
 tuples-requires-clause-few_exprs g c =
     subst (λ (exprs : List Expr). length exprs ≤ 16) (sym (c.as_slice-exprs.ensures ∙ ap (λ k. k.exprs) c.key.ensures))
     (leb-true (length c.args.key.now.exprs) 16 (and_parts _ _ (and_parts _ _ c.pattern-pattern.ensures.valid).0).1)
+
+pub tuples-requires-clause-names : goal.tuples-requires-clause-names
+tuples-requires-clause-names g c = names c.args.compiled.now Descriptor c.args.key.now c.pattern-pattern.result.now c.pattern-pattern.ensures.pattern c.requires.typed
+
+pub tuples-requires-clause-in_range : goal.tuples-requires-clause-in_range
+tuples-requires-clause-in_range g c = has_x Descriptor c.args.key.now c.pattern-pattern.result.now c.pattern-pattern.ensures.pattern c.pattern-pattern.ensures.valid
