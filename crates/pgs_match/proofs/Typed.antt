@@ -1,5 +1,5 @@
 -- Patterns of a valid key whose types are those of the schema, as the searches of a place ask for them.
-use Rattle.std.proofs.Common.{◌≡◌, ◌<◌, ℕ, true, length, sym, subst}
+use Rattle.std.proofs.Common.{◌≡◌, ◌<◌, true, length, sym, subst}
 use Rattle.std.specs.List.{list_all}
 use Rattle.std.proofs.lemmas.Bool.{and_parts}
 use Rattle.pgs_syntax.specs.declared.key.Key.{Key}
