@@ -8,7 +8,7 @@ use Rattle.pgs_match.specs.Learned.{IsLearned, HasSearched, unlearned}
 use Rattle.pgs_match.specs.Near.{HasDegreesWithin}
 use Rattle.pgs_match.specs.Planned.{most_edges}
 use Rattle.pgs_match.specs.Spread.{elem_degree}
-use Rattle.pgs_match.proofs.calls.each_x.Given as goal
+use Rattle.pgs_match.proofs.calls.scope_among.Given as goal
 
 abbrev pub invariant-loop-elem : goal.invariant-loop-elem
 invariant-loop-elem g l =
@@ -17,8 +17,8 @@ invariant-loop-elem g l =
       so_far : l.scope.items ≡ filter (is_in_scope l.compiled graph l.key) (take l.elem-index l.elems);
       learned : IsLearned l.compiled graph l.key l.learned;
       no_step_back : l.fn.steps ≤ l.steps;
-      cost : (most : ℕ) → HasDegreesWithin graph most → l.steps ≤ l.initial.steps + l.elem-index * (16 * (most + 2) ^ (most_edges l.key + 1));
+      cost : (most : ℕ) → HasDegreesWithin graph most → l.steps ≤ l.fn.steps + l.elem-index * (16 * (most + 2) ^ (most_edges l.key + 1));
       once : has_no_cycle l.key.scope ≡ true → (pairs : List Stand) → ((elem : Elem) → Contains l.elems elem → HasSearched l.compiled graph l.key.scope elem pairs) →
           l.steps + 440 * unlearned graph l.learned pairs
-          ≤ l.initial.steps + 440 * sum_by (λ (elem : Elem). elem_degree graph elem + 2) (take l.elem-index l.elems) + 440 * sum_by (λ (stand : Stand). elem_degree graph stand.elem + 2) pairs;
+          ≤ l.fn.steps + 440 * sum_by (λ (elem : Elem). elem_degree graph elem + 2) (take l.elem-index l.elems) + 440 * sum_by (λ (stand : Stand). elem_degree graph stand.elem + 2) pairs;
     }
