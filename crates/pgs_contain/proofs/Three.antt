@@ -15,7 +15,7 @@ use Rattle.pgs_syntax.specs.Triples.{is_triple}
 use Rattle.pgs_conform.specs.declared.options.Options.{Options}
 use Rattle.pgs_conform.specs.declared.shape.Shape.{Shape}
 use Rattle.pgs_conform.specs.declared.shape.Triple.{Triple as ShapeTriple}
-use Rattle.pgs_conform.specs.Shapes.{admits, labels_meet, in_triple, in_some_triple, DenotesTriples}
+use Rattle.pgs_conform.specs.Shapes.{admits, labels_meet, in_shape, in_some, in_triple, in_some_triple, DenotesTriples}
 use Rattle.pgs_product.proofs.United.{name_cmp}
 use Rattle.pgs_conform.specs.JoinedOptions.{options_at}
 use Rattle.pgs_contain.specs.declared.frame.Frame.{Frame}
@@ -529,3 +529,17 @@ triple_pushed start all new triples i shapes copy lt is same pushed before t =
     ∙ or_step (in_some_triple start t) (in_some_triple (take i triples) t) (in_triple shapes t || false)
     ∙ ap (λ b. in_some_triple start t || b) (sym (list_any-append (λ s. in_triple s t) (take i triples) (shapes ∷ [])))
     ∙ ap (λ ss. in_some_triple start t || in_some_triple ss t) (sym (take_more triples i shapes lt ∙ ap (λ s. take i triples ++ s ∷ []) (sym is)))
+
+-- ---- shapes put last
+
+pub shape_pushed : (start all new shapes : List Shape) (i : ℕ) (shape copy : Shape) → i < length shapes → shape ≡ get_or shapes i shape →
+    ((p : NodeRow) → in_shape copy p ≡ in_shape shape p) → new ≡ all ++ copy ∷ [] →
+    ((p : NodeRow) → in_some all p ≡ (in_some start p || in_some (take i shapes) p)) →
+    (p : NodeRow) → in_some new p ≡ (in_some start p || in_some (take (i + 1) shapes) p)
+shape_pushed start all new shapes i shape copy lt is same pushed before p =
+    ap (λ ss. in_some ss p) pushed ∙ list_any-append (λ s. in_shape s p) all (copy ∷ [])
+    ∙ ap (λ b. b || (in_shape copy p || false)) (before p)
+    ∙ ap (λ b. (in_some start p || in_some (take i shapes) p) || (b || false)) (same p)
+    ∙ or_step (in_some start p) (in_some (take i shapes) p) (in_shape shape p || false)
+    ∙ ap (λ b. in_some start p || b) (sym (list_any-append (λ s. in_shape s p) (take i shapes) (shape ∷ [])))
+    ∙ ap (λ ss. in_some start p || in_some ss p) (sym (take_more shapes i shape lt ∙ ap (λ s. take i shapes ++ s ∷ []) (sym is)))
