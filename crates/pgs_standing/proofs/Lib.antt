@@ -3,4 +3,5 @@ pub mod Found
 pub mod Fewest
 pub mod Parted
 pub mod Shared
+pub mod Smaller
 pub mod Three
