@@ -1,6 +1,6 @@
 //! Values, and the outside as worlds and sources in memory.
 
-mod sources;
-mod stops;
-mod values;
-mod worlds;
+pub mod sources;
+pub mod stops;
+pub mod values;
+pub mod worlds;

@@ -7,5 +7,5 @@
 
 mod alone;
 mod changes;
-mod checked;
-mod differing;
+pub mod checked;
+pub mod differing;

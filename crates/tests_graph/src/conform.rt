@@ -1,3 +1,3 @@
 //! The compiled form of types: the walk over a shape.
 
-mod walks;
+pub mod walks;

@@ -5,10 +5,6 @@ use pgs_base::{Copyable, EdgeId, Memory, Ordered};
 use pgs_tables_edges::EdgeList;
 use std::alloc::Global;
 use std::mem::size_of;
-use std::test::Fail;
-
-/// What each call on the numbers 0, 2, 4 and 6 gives, and that a list is small: a node has two, and most nodes have few edges or none.
-const CALLED: &str = " 0 2 4 6; 0 2 3 4 6; 0 2 4 6; 0 2 6; 0 2 4 6; 0 2 3 4 6; 2 4; 0 3 6;y";
 
 /// So many numbers from 0, in steps.
 fn stepped(alloc: Global, step: u64, count: u64) -> Result<Ordered<EdgeId>, Memory> {
@@ -35,24 +31,19 @@ fn called(alloc: Global, call: u8) -> Result<EdgeList, Memory> {
     }
 }
 
-fn told(alloc: Global) -> Result<Told, Memory> {
-    let mut told = Told::new(alloc);
+/// Tells what each call on the numbers 0, 2, 4 and 6 gives, and whether a list is small: a node has two, and most nodes have few edges or none.
+pub fn tell_calls(alloc: Global, told: &mut Told) -> Result<(), Memory> {
     for call in 0..8 {
         let list = called(alloc, call)?;
         for place in 0..list.len() {
             if let Some(id) = list.at(place) {
-                told.number(" ", id.0);
+                told.number("", id.0);
+                told.word(" ");
             }
         }
         told.word(";");
     }
     told.truth(size_of::<EdgeList>() <= 40);
-    Ok(told)
-}
-
-#[test]
-fn each_call_gives_its_list(rt: HostRuntime) -> Result<(), Fail> {
-    assert_eq!(rt; told(rt.alloc())?.text()?, CALLED);
     Ok(())
 }
 
@@ -86,35 +77,29 @@ fn sorted(alloc: Global, step: u64, taken: u64) -> Result<Vec<u64>, Memory> {
     Ok(left)
 }
 
-/// How many numbers are left, and how many of them stand at their place.
-fn compared(alloc: Global, step: u64, taken: u64) -> Result<(usize, usize), Memory> {
+/// Tells how many numbers are left, and how many of them stand at their place.
+fn tell_long(alloc: Global, step: u64, taken: u64, told: &mut Told) -> Result<(), Memory> {
     let list = edited(alloc, step, taken)?;
     let wanted = sorted(alloc, step, taken)?;
-    let mut same = 0usize;
+    let mut same = 0u64;
     for (place, number) in wanted.iter().enumerate() {
         if list.at(place) == Some(EdgeId(*number)) {
             same = same.saturating_add(1);
         }
     }
-    Ok((list.len(), same))
+    told.number("", list.len() as u64);
+    told.number(" ", same);
+    told.word(";");
+    Ok(())
 }
 
-/// The step, how many numbers are taken out again, and how many are left.
-const LONG: &[(u64, u64, usize)] = &[
-    (1, 0, 3_000),
-    (2_999, 0, 3_000),
-    (1_009, 2_000, 1_000),
-    (2_999, 2_990, 10),
-];
+/// The step, and how many numbers are taken out again.
+const LONG: &[(u64, u64)] = &[(1, 0), (2_999, 0), (1_009, 2_000), (2_999, 2_990)];
 
-#[test]
-fn long_lists_are_as_a_sorted_vec(rt: HostRuntime) -> Result<(), Fail> {
-    for (step, taken, left) in LONG {
-        assert_eq!(rt;
-            compared(rt.alloc(), *step, *taken)?,
-            (*left, *left),
-            "{step}"
-        );
+/// Tells of the long lists.
+pub fn tell_longs(alloc: Global, told: &mut Told) -> Result<(), Memory> {
+    for (step, taken) in LONG {
+        tell_long(alloc, *step, *taken, told)?;
     }
     Ok(())
 }

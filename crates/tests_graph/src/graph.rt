@@ -1,9 +1,9 @@
 //! Graphs in all their forms, changed by transactions that are read from texts.
 
-mod copies;
-mod drawn;
+pub mod copies;
+pub mod drawn;
 mod filled;
 mod forms;
 mod listing;
 mod plain;
-mod worked;
+pub mod worked;

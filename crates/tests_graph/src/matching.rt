@@ -7,9 +7,9 @@
 //! Worked graphs with their violations, scopes and key values stand in `crates/tests_rows/data/keys_worked.rows`.
 
 mod agreement;
-mod confirmed;
+pub mod confirmed;
 mod drawing;
-mod drawn;
+pub mod drawn;
 mod list_agreement;
 mod listing;
 

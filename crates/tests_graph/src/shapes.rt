@@ -1,6 +1,6 @@
 //! Compiled types of a drawn script, beside a plain program that joins all small pairs.
 
-mod compared;
+pub mod compared;
 mod drawn;
 pub mod pairs;
 mod plain;

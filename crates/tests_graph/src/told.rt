@@ -6,7 +6,6 @@ use std::alloc::Global;
 /// A text that grows. Where memory ran out a piece is missing, and the text isn't whole.
 #[derive(Drop)]
 pub struct Told {
-    alloc: Global,
     text: String,
     is_whole: bool,
 }
@@ -14,7 +13,6 @@ pub struct Told {
 impl Told {
     pub fn new(alloc: Global) -> Told {
         Told {
-            alloc,
             text: String::new(alloc),
             is_whole: true,
         }
@@ -34,17 +32,23 @@ impl Told {
 
     /// A number, behind a word.
     pub fn number(&mut self, before: &str, number: u64) {
-        match format!(in self.alloc; "{before}{number}") {
-            Ok(word) => self.word(word.as_str()),
-            Err(_) => self.is_whole = false,
+        if write!(self.text, "{before}{number}").is_err() {
+            self.is_whole = false;
         }
     }
 
     /// A number that may be below 0, behind a word.
     pub fn signed(&mut self, before: &str, number: i64) {
-        match format!(in self.alloc; "{before}{number}") {
-            Ok(word) => self.word(word.as_str()),
-            Err(_) => self.is_whole = false,
+        if write!(self.text, "{before}{number}").is_err() {
+            self.is_whole = false;
+        }
+    }
+
+    /// How many there are, behind a word; where they are enough, only that.
+    pub fn at_least(&mut self, before: &str, number: u64, least: u64) {
+        self.number(before, number.min(least));
+        if number >= least {
+            self.word(" or more");
         }
     }
 
@@ -59,6 +63,15 @@ impl Told {
         for byte in bytes {
             let byte = if *byte < 10 { b'0' + *byte } else { *byte };
             self.letter(char::from(byte));
+        }
+    }
+
+    /// A row that is found otherwise than it must.
+    pub fn otherwise(&mut self, row: &str, wanted: &str, found: &str) {
+        if wanted != found
+            && write!(self.text, "{row}\nwanted {wanted}\nfound {found}\n").is_err()
+        {
+            self.is_whole = false;
         }
     }
 

@@ -8,6 +8,7 @@ ghost use Rattle.tests_graph.specs.Kept.{IsKept, Keeps};
 
 use super::changes::delta;
 use crate::matching::schema_of;
+use crate::told::Told;
 use pgs_base::{List, Memory, Steps};
 use pgs_check::{CheckFault, check, check_types};
 use pgs_graph::Delta;
@@ -20,7 +21,6 @@ use pgs_violation::Violation;
 use std::alloc::Global;
 use std::marker::Brand;
 use std::sync::ledger::{Blank, Ledger};
-use std::test::Fail;
 
 const SCHEMA: &str =
     "CREATE GRAPH TYPE g STRICT {(t: A {k INT}), (u: B OPEN {OPEN}), (:t)-[e: r {OPTIONAL k INT}]->(:t), (OPEN {OPEN})-[f: s {OPTIONAL k INT}]->(OPEN {OPEN}), FOR (x:t) EXCLUSIVE x.k, FOR (x)-[:s]->() MANDATORY y.k WITHIN (x)-[:s]->(y), FOR (x:t) SINGLETON y.k WITHIN (x)-[:r]->(y), FOR (x) COUNT 0..2 OF y WITHIN (x)-[:s]->(y), FOR ()-[x:s]->() EXCLUSIVE u, v WITHIN (u)-[x]->(v), FOR (x)-[:s]->()-[:s]->(x) SINGLETON b WITHIN (x)<-[b:s]-()};";
@@ -204,16 +204,17 @@ fn tallied(alloc: Global) -> Result<Tally, Memory> {
     tally_by::<Brand>(alloc, &schema, Blank::new(1))
 }
 
-// 25 to 29, and 39.
-const ALL_NUMBERS: u64 = 0b1000_0000_0011_1110_0000_0000_0000_0000_0000_0000;
-
-// Each change is judged as by the list from scratch, each of the six violations comes first somewhere, and many changes conform.
-fn is_told(tally: Tally) -> bool {
-    tally.otherwise == 0 && tally.numbers == ALL_NUMBERS && tally.conforming >= 100
-}
-
-#[test]
-fn the_first_violation_is_that_of_the_list(rt: HostRuntime) -> Result<(), Fail> {
-    assert!(rt; is_told(tallied(rt.alloc())?));
+/// Tells how many changes are judged otherwise than by the list from scratch, which of the six violations come first somewhere, and that many
+/// changes conform.
+pub fn tell(alloc: Global, told: &mut Told) -> Result<(), Memory> {
+    let tally = tallied(alloc)?;
+    told.number("", u64::from(tally.otherwise));
+    told.word(" otherwise, violations");
+    for number in 0..64 {
+        if tally.numbers >> number & 1 == 1 {
+            told.number(" ", number);
+        }
+    }
+    told.at_least(", conforming ", u64::from(tally.conforming), 100);
     Ok(())
 }

@@ -7,6 +7,7 @@ ghost use Rattle.pgs_syntax.specs.Valid.{is_valid_key_of};
 use super::alone::key_alone;
 use super::changes::delta;
 use crate::matching::{ELEMENTS, schema_of};
+use crate::told::Told;
 use pgs_base::{EdgeId, Elem, List, Memory, NodeId, Steps};
 use pgs_check_affected::affected;
 use pgs_conform::Compiled;
@@ -18,7 +19,6 @@ use pgs_tables::Tables;
 use std::alloc::Global;
 use std::marker::Brand;
 use std::sync::ledger::{Blank, Ledger};
-use std::test::Fail;
 
 const SCHEMA: &str =
     "CREATE GRAPH TYPE g LOOSE {ABSTRACT (t: A OPEN {k INT, OPEN}), ABSTRACT (:t)-[f OPEN {OPEN}]->(OPEN {OPEN}), ABSTRACT (OPEN {OPEN})-[h OPEN {OPEN}]->(:t), FOR (x:A) EXCLUSIVE x.k, FOR (x:t) MANDATORY y WITHIN (x)-[:r]->(y:A), FOR (x)-[:f]->() SINGLETON z.k WITHIN (x)-[:r]->()<-[:s]-(z), FOR (x)-[a]->()-[:r]->(x) MANDATORY b, y.k WITHIN (x)-[b]->(y)-[:s]->(x), FOR (x)-[a]->(x) SINGLETON b WITHIN (x)-[b]->(x), FOR ()-[x:r]->(:A) EXCLUSIVE u, v.k WITHIN (u)-[x]->(v)-[:s]->(), FOR (:t)-[x:f]->() SINGLETON x.k};";
@@ -224,14 +224,19 @@ fn tallied(alloc: Global) -> Result<Tally, Memory> {
     tally_by::<Brand>(alloc, &schema, Blank::new(1))
 }
 
-// None is missed, many differ, and at most four times as many are given.
-fn is_told(counts: Counts, many: u64) -> bool {
-    counts.missed == 0 && counts.found >= many && counts.given / 4 <= counts.found
+// Tells how many are missed, that many differ, and whether at most four times as many are given.
+fn tell_counts(counts: Counts, many: u64, told: &mut Told) {
+    told.number("", counts.missed);
+    told.at_least(" missed, ", counts.found, many);
+    told.word(" differ, at most four times as many given: ");
+    told.truth(counts.given / 4 <= counts.found);
+    told.word(";");
 }
 
-#[test]
-fn what_differs_is_given(rt: HostRuntime) -> Result<(), Fail> {
-    let tally = tallied(rt.alloc())?;
-    assert!(rt; is_told(tally.listed, 500) && is_told(tally.alone, 100));
+/// Tells the counts over the keys of the schema, and over those whose patterns are one edge alone.
+pub fn tell(alloc: Global, told: &mut Told) -> Result<(), Memory> {
+    let tally = tallied(alloc)?;
+    tell_counts(tally.listed, 500, told);
+    tell_counts(tally.alone, 100, told);
     Ok(())
 }

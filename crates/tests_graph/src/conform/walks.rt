@@ -1,10 +1,10 @@
 //! Shapes against all 216 pairs of three labels and three keys, beside a plain program over the bits of a pair.
 
 use crate::shapes::pairs::{Owned, is_pair, labels_of, name};
-use pgs_base::{List, Name, Rows};
+use crate::told::Told;
+use pgs_base::{List, Memory, Name, Rows};
 use pgs_conform::{Options, Shape};
 use std::alloc::Global;
-use std::test::Fail;
 
 /// A key, the bits of what stands there, and what may: 1 for nothing, 2 for a text, 4 for a number, and their sums.
 type Key = (&'static str, u32, u32);
@@ -46,7 +46,7 @@ fn options_of(allowed: u32) -> Options {
     }
 }
 
-fn shape(alloc: Global, form: &Form) -> Result<Shape, Fail> {
+fn shape(alloc: Global, form: &Form) -> Result<Shape, Memory> {
     let mut keys: Rows<Name, Options> = Rows::new(alloc);
     for (text, _, allowed) in form.1 {
         keys.set(name(alloc, text)?, options_of(*allowed))?;
@@ -61,41 +61,39 @@ fn shape(alloc: Global, form: &Form) -> Result<Shape, Fail> {
     })
 }
 
-// How many pairs are answered alike, and how many are in the shape.
-fn count_alike(alloc: Global, form: &Form) -> Result<(u32, u32), Fail> {
+// Tells how many pairs are answered alike, and how many are in the shape.
+fn tell_alike(alloc: Global, form: &Form, told: &mut Told) -> Result<(), Memory> {
     let shape = shape(alloc, form)?;
-    let mut alike: u32 = 0;
-    let mut inside: u32 = 0;
+    let (mut alike, mut inside) = (0u64, 0u64);
     for pair in 0..512 {
         if is_pair(pair) {
             let has = shape.has(&Owned::of(alloc, pair)?.lent());
-            alike = alike.saturating_add(u32::from(has == plain_has(form, pair)));
-            inside = inside.saturating_add(u32::from(has));
+            alike = alike.saturating_add(u64::from(has == plain_has(form, pair)));
+            inside = inside.saturating_add(u64::from(has));
         }
     }
-    Ok((alike, inside))
+    told.number("", alike);
+    told.number(" alike, ", inside);
+    told.word(" inside;");
+    Ok(())
 }
 
-/// Shapes, and how many of the pairs are in each.
-const SHAPES: &[(Form, u32)] = &[
-    ((1, &[("k", 72, 2), ("m", 288, 5)], false, false), 2),
-    ((5, &[], true, true), 54),
+const FORMS: &[Form] = &[
+    (1, &[("k", 72, 2), ("m", 288, 5)], false, false),
+    (5, &[], true, true),
     (
-        (
-            0,
-            &[("k", 72, 5), ("l", 144, 6), ("m", 288, 1)],
-            false,
-            true,
-        ),
-        4,
+        0,
+        &[("k", 72, 5), ("l", 144, 6), ("m", 288, 1)],
+        false,
+        true,
     ),
-    ((2, &[("l", 144, 2)], true, false), 4),
+    (2, &[("l", 144, 2)], true, false),
 ];
 
-#[test]
-fn a_walk_answers_as_looking_each_name_up_does(rt: HostRuntime) -> Result<(), Fail> {
-    for (form, inside) in SHAPES {
-        assert_eq!(rt; count_alike(rt.alloc(), form)?, (216, *inside));
+/// Tells of each shape how many pairs are answered as by looking each name up.
+pub fn tell(alloc: Global, told: &mut Told) -> Result<(), Memory> {
+    for form in FORMS {
+        tell_alike(alloc, form, told)?;
     }
     Ok(())
 }

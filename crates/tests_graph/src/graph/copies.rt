@@ -1,9 +1,9 @@
 //! A copy of a transaction is written as the line that the transaction was read from.
 
+use crate::told::Told;
 use pgs_base::{Bytes, Copyable, Memory};
 use pgs_json::{read_txn, write_txn};
 use std::alloc::Global;
-use std::test::Fail;
 
 /// One operation of each kind.
 const LINE: &str =
@@ -16,8 +16,8 @@ fn copied(alloc: Global) -> Result<Bytes, Memory> {
     }
 }
 
-#[test]
-fn a_copy_is_written_as_it_was_read(rt: HostRuntime) -> Result<(), Fail> {
-    assert!(rt; copied(rt.alloc())?.as_slice() == LINE.as_bytes());
+/// Tells whether the copy is written as it was read.
+pub fn tell(alloc: Global, told: &mut Told) -> Result<(), Memory> {
+    told.truth(copied(alloc)?.as_slice() == LINE.as_bytes());
     Ok(())
 }

@@ -3,6 +3,7 @@
 ghost use Rattle.std.specs.Prelude.{◌≡◌, ◌<◌};
 
 use super::drawing::{graph_of, schema_of};
+use crate::told::Told;
 use pgs_base::{Elem, List, Memory, NodeId, Part, Steps, Text, Tuple, Value};
 use pgs_graph::Graph;
 use pgs_schema::Schema;
@@ -11,7 +12,6 @@ use pgs_violation::Violation;
 use std::alloc::Global;
 use std::marker::Brand;
 use std::sync::ledger::{Blank, Ledger};
-use std::test::Fail;
 
 const UNIQUE_MAILS: &str =
     "CREATE GRAPH TYPE g STRICT {(person: Person {mail STRING}), FOR (x:person) EXCLUSIVE x.mail};";
@@ -84,21 +84,24 @@ fn confirmed(
     confirmed_by::<Brand>(alloc, &schema, &graph, violation, Blank::new(1))
 }
 
-const CASES: [(&str, &str, u64, u64, &str, bool); 7] = [
-    (UNIQUE_MAILS, TWO_OF_ONE_MAIL, 1, 2, "b", true),
-    (UNIQUE_MAILS, TWO_OF_ONE_MAIL, 2, 1, "b", false),
-    (UNIQUE_MAILS, TWO_OF_ONE_MAIL, 1, 2, "c", false),
-    (ONE_OR_TWO_MODERATORS, TWO_FORUMS, 1, 3, "", true),
-    (ONE_OR_TWO_MODERATORS, TWO_FORUMS, 1, 4, "", false),
-    (ONE_OR_TWO_MODERATORS, TWO_FORUMS, 2, 0, "", true),
-    (ONE_OR_TWO_MODERATORS, TWO_FORUMS, 4, 0, "", false),
+// A schema, a line, a node, a number and a mail.
+type Case = (&'static str, &'static str, u64, u64, &'static str);
+
+const CASES: &[Case] = &[
+    (UNIQUE_MAILS, TWO_OF_ONE_MAIL, 1, 2, "b"),
+    (UNIQUE_MAILS, TWO_OF_ONE_MAIL, 2, 1, "b"),
+    (UNIQUE_MAILS, TWO_OF_ONE_MAIL, 1, 2, "c"),
+    (ONE_OR_TWO_MODERATORS, TWO_FORUMS, 1, 3, ""),
+    (ONE_OR_TWO_MODERATORS, TWO_FORUMS, 1, 4, ""),
+    (ONE_OR_TWO_MODERATORS, TWO_FORUMS, 2, 0, ""),
+    (ONE_OR_TWO_MODERATORS, TWO_FORUMS, 4, 0, ""),
 ];
 
-#[test]
-fn only_what_is_listed_is_confirmed(rt: HostRuntime) -> Result<(), Fail> {
-    for (schema, line, node, number, mail, wanted) in &CASES {
-        let violation = violation(rt.alloc(), *node, *number, mail)?;
-        assert_eq!(rt; confirmed(rt.alloc(), schema, line, &violation)?, *wanted);
+/// Tells which violations are confirmed: those that are listed.
+pub fn tell(alloc: Global, told: &mut Told) -> Result<(), Memory> {
+    for (schema, line, node, number, mail) in CASES {
+        let violation = violation(alloc, *node, *number, mail)?;
+        told.truth(confirmed(alloc, schema, line, &violation)?);
     }
     Ok(())
 }

@@ -7,6 +7,7 @@ use super::agreement::{Asked, agreed};
 use super::drawing::{drawn_graph, drawn_schema};
 use super::list_agreement::{after_key, after_untyped};
 use super::listing::Rows;
+use crate::told::Told;
 use pgs_base::{List, Memory, Steps};
 use pgs_graph::Graph;
 use pgs_schema::Schema;
@@ -15,7 +16,6 @@ use pgs_violation::Violation;
 use std::alloc::Global;
 use std::marker::Brand;
 use std::sync::ledger::{Blank, Ledger};
-use std::test::Fail;
 
 // The place behind the violations of a key in a list, where all calls answer of the key as the plain program.
 fn after_asked<L: Ledger>(
@@ -142,8 +142,8 @@ fn agreeing(alloc: Global) -> Result<u32, Memory> {
     agreeing_by::<Brand>(alloc, graphs.as_slice(), Blank::new(1))
 }
 
-#[test]
-fn all_is_as_the_plain_program_has_it(rt: HostRuntime) -> Result<(), Fail> {
-    assert_eq!(rt; agreeing(rt.alloc())?, 10 * 200);
+/// Tells how often it is so.
+pub fn tell(alloc: Global, told: &mut Told) -> Result<(), Memory> {
+    told.number("", u64::from(agreeing(alloc)?));
     Ok(())
 }

@@ -3,10 +3,11 @@
 use super::drawn::script;
 use super::pairs::{Owned, is_pair};
 use super::plain::{has, set_of};
+use crate::told::Told;
+use pgs_base::Memory;
 use pgs_conform::{Compiled, edge_fits, node_fits};
 use pgs_schema::read_schema;
-use std::alloc::{AllocError, Global};
-use std::test::Fail;
+use std::alloc::Global;
 use tests_fixtures::Numbers;
 
 /// How many answers were yes, and how many were those of the plain program.
@@ -21,10 +22,16 @@ impl Counts {
         self.yes = self.yes.saturating_add(u32::from(answer));
         self.alike = self.alike.saturating_add(u32::from(answer == plain));
     }
+
+    fn tell(self, told: &mut Told) {
+        told.number("", u64::from(self.yes));
+        told.number(" fit, ", u64::from(self.alike));
+        told.word(" alike");
+    }
 }
 
 // The pairs that fit each node type.
-fn sets_of_nodes(alloc: Global, compiled: &Compiled) -> Result<Vec<u128>, AllocError> {
+fn sets_of_nodes(alloc: Global, compiled: &Compiled) -> Result<Vec<u128>, Memory> {
     let mut sets = Vec::new(alloc);
     for node in compiled.resolved().nodes.as_slice() {
         let set = set_of(&node.spec, sets.as_slice());
@@ -40,7 +47,7 @@ fn fits_node(compiled: &Compiled, number: u32, own: &Owned) -> bool {
     }
 }
 
-fn compare_nodes(alloc: Global, compiled: &Compiled) -> Result<Counts, Fail> {
+fn compare_nodes(alloc: Global, compiled: &Compiled) -> Result<Counts, Memory> {
     let mut counts = Counts { yes: 0, alike: 0 };
     let sets = sets_of_nodes(alloc, compiled)?;
     for pair in 0..128 {
@@ -81,7 +88,7 @@ impl Sets {
 }
 
 // The sets of each edge type. The types that middles name ask nothing of their ends.
-fn sets_of_edges(alloc: Global, compiled: &Compiled) -> Result<Vec<Sets>, AllocError> {
+fn sets_of_edges(alloc: Global, compiled: &Compiled) -> Result<Vec<Sets>, Memory> {
     let nodes = sets_of_nodes(alloc, compiled)?;
     let mut middles = Vec::new(alloc);
     let mut sets = Vec::new(alloc);
@@ -130,7 +137,7 @@ fn fits_pairs(
     compiled: &Compiled,
     number: u32,
     pairs: [u32; 3],
-) -> Result<bool, Fail> {
+) -> Result<bool, Memory> {
     let [source, own, target] = pairs;
     let source = Owned::of(alloc, source)?;
     let own = Owned::of(alloc, own)?;
@@ -139,7 +146,7 @@ fn fits_pairs(
 }
 
 // 24 triples of each edge type.
-fn compare_edges(alloc: Global, compiled: &Compiled) -> Result<Counts, Fail> {
+fn compare_edges(alloc: Global, compiled: &Compiled) -> Result<Counts, Memory> {
     let mut counts = Counts { yes: 0, alike: 0 };
     let mut numbers = Numbers::new(11);
     let sets = sets_of_edges(alloc, compiled)?;
@@ -155,25 +162,26 @@ fn compare_edges(alloc: Global, compiled: &Compiled) -> Result<Counts, Fail> {
     Ok(counts)
 }
 
-fn compiled_script(alloc: Global) -> Result<Compiled, Fail> {
+// A refusal is told as want of memory.
+fn compiled_script(alloc: Global) -> Result<Compiled, Memory> {
     let script = script(alloc);
-    Ok(read_schema(alloc, script.text()?.as_bytes())?)
+    match read_schema(alloc, script.text()?.as_bytes()) {
+        Ok(compiled) => Ok(compiled),
+        Err(_) => Err(Memory),
+    }
 }
 
-// Of the 18 leaves and the 60 types on 96 pairs each. How many fit was counted by a third program.
-#[test]
-fn compiled_types_answer_as_joining_all_pairs_does(rt: HostRuntime) -> Result<(), Fail> {
-    let compiled = compiled_script(rt.alloc())?;
-    let counts = compare_nodes(rt.alloc(), &compiled)?;
-    assert_eq!(rt; (counts.yes, counts.alike), (573, 7_488));
+/// Tells of the 18 leaves and the 60 types on 96 pairs each how many fit, and how many answers are those of joining all pairs. How many fit was
+/// counted by a third program.
+pub fn tell_nodes(alloc: Global, told: &mut Told) -> Result<(), Memory> {
+    let compiled = compiled_script(alloc)?;
+    compare_nodes(alloc, &compiled)?.tell(told);
     Ok(())
 }
 
-// Of the 18 leaves and the 20 types on 24 triples each.
-#[test]
-fn compiled_edge_types_answer_by_their_three_parts(rt: HostRuntime) -> Result<(), Fail> {
-    let compiled = compiled_script(rt.alloc())?;
-    let counts = compare_edges(rt.alloc(), &compiled)?;
-    assert_eq!(rt; (counts.yes, counts.alike), (102, 912));
+/// Tells the same of the 18 leaves and the 20 types on 24 triples each.
+pub fn tell_edges(alloc: Global, told: &mut Told) -> Result<(), Memory> {
+    let compiled = compiled_script(alloc)?;
+    compare_edges(alloc, &compiled)?.tell(told);
     Ok(())
 }
