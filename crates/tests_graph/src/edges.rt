@@ -15,10 +15,13 @@ fn stepped(alloc: Global, step: u64, count: u64) -> Result<Ordered<EdgeId>, Memo
     Ok(ids)
 }
 
-fn called(alloc: Global, call: u8) -> Result<EdgeList, Memory> {
-    let twos = stepped(alloc, 2, 4)?;
-    let threes = stepped(alloc, 3, 3)?;
-    let list = EdgeList::from_slice(alloc, twos.as_slice())?;
+fn call_on(
+    alloc: Global,
+    list: &EdgeList,
+    call: u8,
+    twos: &Ordered<EdgeId>,
+    threes: &Ordered<EdgeId>,
+) -> Result<EdgeList, Memory> {
     match call {
         0 => list.copy(alloc),
         1 => list.with(alloc, EdgeId(3)),
@@ -29,6 +32,13 @@ fn called(alloc: Global, call: u8) -> Result<EdgeList, Memory> {
         6 => list.without_all(alloc, threes.as_slice()),
         _ => list.changed(alloc, threes.as_slice(), twos.as_slice()),
     }
+}
+
+fn called(alloc: Global, call: u8) -> Result<EdgeList, Memory> {
+    let twos = stepped(alloc, 2, 4)?;
+    let threes = stepped(alloc, 3, 3)?;
+    let list = EdgeList::from_slice(alloc, twos.as_slice())?;
+    call_on(alloc, &list, call, &twos, &threes)
 }
 
 /// Tells what each call on the numbers 0, 2, 4 and 6 gives, and whether a list is small: a node has two, and most nodes have few edges or none.

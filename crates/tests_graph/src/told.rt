@@ -68,10 +68,13 @@ impl Told {
 
     /// A row that is found otherwise than it must.
     pub fn otherwise(&mut self, row: &str, wanted: &str, found: &str) {
-        if wanted != found
-            && write!(self.text, "{row}\nwanted {wanted}\nfound {found}\n").is_err()
-        {
-            self.is_whole = false;
+        if wanted != found {
+            self.word(row);
+            self.word("\nwanted ");
+            self.word(wanted);
+            self.word("\nfound ");
+            self.word(found);
+            self.word("\n");
         }
     }
 

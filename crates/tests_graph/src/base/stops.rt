@@ -18,9 +18,16 @@ const CALLS: &[Call] = &[
     ('s', Area::B, 0, &[]),
 ];
 
+/// Of each area what a column has, and the output.
+type Stop = (
+    &'static [&'static str],
+    &'static [&'static str],
+    &'static str,
+);
+
 /// What a stop after none of the calls, after one and so on leaves: each area with unsynced bytes as before, as written, and filled,
 /// where `.` is the byte that fills; and the output.
-const STOPS: &[(&[&str], &[&str], &str)] = &[
+const STOPS: &[Stop] = &[
     (&["1234", "1234", "1234"], &["9", "9", "9"], ""),
     (&["1234", "12789", "12..."], &["9", "9", "9"], ""),
     (&["1234", "12789", "12..."], &["9", "95", "9."], ""),
@@ -32,8 +39,10 @@ const STOPS: &[(&[&str], &[&str], &str)] = &[
     (&["1", "6", "."], &["", "", ""], "ok"),
 ];
 
+type Way = (Leave, usize, u8);
+
 /// How unsynced bytes are left, in which column that stands, and the byte that fills.
-const WAYS: &[(Leave, usize, u8)] = &[
+const WAYS: &[Way] = &[
     (Leave::Old, 0, 0),
     (Leave::New, 1, 0),
     (Leave::Fill(0), 2, 0),
@@ -66,18 +75,23 @@ fn stopped(alloc: Global, calls: u64, how: Leave) -> Result<(Bytes, Bytes, Bytes
     world.left(alloc, how)
 }
 
-/// The ways of a stop after so many calls that leave something else.
-fn tell_differing(alloc: Global, calls: u64, told: &mut Told) -> Result<(), Memory> {
-    let Some((a, b, output)) = STOPS.get(calls as usize) else {
-        return Ok(());
-    };
-    for (how, column, fills) in WAYS {
-        let left = stopped(alloc, calls, *how)?;
-        let is_a = is_image(left.0.as_slice(), a.get(*column), *fills);
-        let is_b = is_image(left.1.as_slice(), b.get(*column), *fills);
-        if !is_a || !is_b || left.2.as_slice() != output.as_bytes() {
+/// Whether a stop after so many calls leaves what its row has.
+fn is_so(alloc: Global, calls: u64, stop: &Stop, way: &Way) -> Result<bool, Memory> {
+    let (how, column, fills) = *way;
+    let (a, b, output) = stopped(alloc, calls, how)?;
+    Ok(
+        is_image(a.as_slice(), stop.0.get(column), fills)
+            && is_image(b.as_slice(), stop.1.get(column), fills)
+            && output.as_slice() == stop.2.as_bytes(),
+    )
+}
+
+/// Tells the ways of a stop after so many calls that leave something else.
+fn tell_differing(alloc: Global, calls: u64, stop: &Stop, told: &mut Told) -> Result<(), Memory> {
+    for way in WAYS {
+        if !is_so(alloc, calls, stop, way)? {
             told.number(", otherwise after ", calls);
-            told.number(" filled by ", u64::from(*fills));
+            told.number(" filled by ", u64::from(way.2));
         }
     }
     Ok(())
@@ -85,9 +99,12 @@ fn tell_differing(alloc: Global, calls: u64, told: &mut Told) -> Result<(), Memo
 
 /// Tells how many stops there are, and which of them leave something else.
 pub fn tell(alloc: Global, told: &mut Told) -> Result<(), Memory> {
-    told.number("", STOPS.len() as u64);
-    for calls in 0..STOPS.len() {
-        tell_differing(alloc, calls as u64, told)?;
+    let mut calls = 0u64;
+    for stop in STOPS {
+        tell_differing(alloc, calls, stop, told)?;
+        calls = calls.saturating_add(1);
     }
+    told.number("", calls);
+    told.word(" stops");
     Ok(())
 }

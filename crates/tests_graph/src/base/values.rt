@@ -59,15 +59,20 @@ fn tell_list(labels: &Labels, told: &mut Told) {
     told.truth(labels.at(labels.len()).is_none());
 }
 
+fn tell_label_calls(alloc: Global, two: &mut TwoLabels, told: &mut Told) -> Result<(), Memory> {
+    for (call, text) in LABELS.0.chars().zip(LABELS.1) {
+        told.truth(two.call(alloc, call, text)?);
+    }
+    Ok(())
+}
+
 /// Tells what the calls on labels answer, and what is in both lists then.
 pub fn tell_labels(alloc: Global, told: &mut Told) -> Result<(), Memory> {
     let mut two = TwoLabels {
         labels: Labels::new(alloc),
         copied: Labels::new(alloc),
     };
-    for (call, text) in LABELS.0.chars().zip(LABELS.1) {
-        told.truth(two.call(alloc, call, text)?);
-    }
+    tell_label_calls(alloc, &mut two, told)?;
     tell_list(&two.labels, told);
     tell_list(&two.copied, told);
     Ok(())
@@ -89,6 +94,17 @@ fn tell_number(value: Option<&Value>, told: &mut Told) {
 }
 
 impl TwoProps {
+    fn tell_put(&mut self, name: Name, number: i64, told: &mut Told) -> Result<(), Memory> {
+        let before = self.props.set(name, Value::Int(number))?;
+        tell_number(before.as_ref(), told);
+        Ok(())
+    }
+
+    fn tell_taken(&mut self, name: &Name, told: &mut Told) {
+        let before = self.props.unset(name);
+        tell_number(before.as_ref(), told);
+    }
+
     fn tell_call(
         &mut self,
         alloc: Global,
@@ -99,8 +115,8 @@ impl TwoProps {
     ) -> Result<(), Memory> {
         let name = name(alloc, text)?;
         match call {
-            '+' => tell_number(self.props.set(name, Value::Int(number))?.as_ref(), told),
-            '-' => tell_number(self.props.unset(&name).as_ref(), told),
+            '+' => return self.tell_put(name, number, told),
+            '-' => self.tell_taken(&name, told),
             '?' => tell_number(self.props.get(&name), told),
             'c' => self.copied = self.props.copy(alloc)?,
             _ => told.truth(self.props == self.copied),
@@ -119,17 +135,22 @@ fn tell_rows(props: &Props, told: &mut Told) {
     told.truth(props.at(props.len()).is_none());
 }
 
+fn tell_prop_calls(alloc: Global, two: &mut TwoProps, told: &mut Told) -> Result<(), Memory> {
+    let mut number = 0i64;
+    for (call, text) in PROPS.0.chars().zip(PROPS.1) {
+        number = number.saturating_add(1);
+        two.tell_call(alloc, call, text, number, told)?;
+    }
+    Ok(())
+}
+
 /// Tells what the calls on properties answer, and what is in both lists then.
 pub fn tell_props(alloc: Global, told: &mut Told) -> Result<(), Memory> {
     let mut two = TwoProps {
         props: Props::new(alloc),
         copied: Props::new(alloc),
     };
-    let mut number = 0i64;
-    for (call, text) in PROPS.0.chars().zip(PROPS.1) {
-        number = number.saturating_add(1);
-        two.tell_call(alloc, call, text, number, told)?;
-    }
+    tell_prop_calls(alloc, &mut two, told)?;
     tell_rows(&two.props, told);
     tell_rows(&two.copied, told);
     Ok(())
@@ -144,17 +165,29 @@ fn pair(alloc: Global, number: i64) -> Result<Tuple, Memory> {
     Ok(Tuple::new(List::from_vec(parts)))
 }
 
-/// Tells which of the tuples of 1, -5 and 1 were new; of a copy, whether the least comes first, whether the other is there, and how many.
+/// Tells whether the pair of a number is new.
+fn tell_put(alloc: Global, set: &mut TupleSet, number: i64, told: &mut Told) -> Result<(), Memory> {
+    told.truth(set.insert(pair(alloc, number)?)?);
+    Ok(())
+}
+
+/// Tells whether the pair of -5 comes first, whether that of 1 is there, and how many there are.
+fn tell_set(alloc: Global, set: &TupleSet, told: &mut Told) -> Result<(), Memory> {
+    let (least, other) = (pair(alloc, -5)?, pair(alloc, 1)?);
+    told.truth(set.at(0) == Some(&least));
+    told.truth(set.contains(&other));
+    told.number("", set.len() as u64);
+    Ok(())
+}
+
+/// Tells which of the tuples of 1, -5 and 1 were new, and what is in a copy.
 pub fn tell_tuples(alloc: Global, told: &mut Told) -> Result<(), Memory> {
     let mut set = TupleSet::new(alloc);
-    for number in &[1, -5, 1] {
-        told.truth(set.insert(pair(alloc, *number)?)?);
-    }
+    tell_put(alloc, &mut set, 1, told)?;
+    tell_put(alloc, &mut set, -5, told)?;
+    tell_put(alloc, &mut set, 1, told)?;
     let copied = set.copy(alloc)?;
-    told.truth(copied.at(0) == Some(&pair(alloc, -5)?));
-    told.truth(copied.contains(&pair(alloc, 1)?));
-    told.number("", copied.len() as u64);
-    Ok(())
+    tell_set(alloc, &copied, told)
 }
 
 /// What `share` gives of a name that is dropped here.
@@ -170,16 +203,26 @@ fn shared_text(alloc: Global, text: &str) -> Result<Text, Memory> {
     }
 }
 
-/// Tells shared names and texts, which outlive what they were made of, and what a box holds.
-pub fn tell_shared(alloc: Global, told: &mut Told) -> Result<(), Memory> {
+fn tell_shared_names(alloc: Global, told: &mut Told) -> Result<(), Memory> {
     for text in &["a", "sixteen_letters_", "seventeen_letters"] {
         told.bytes("", shared_name(alloc, text)?.bytes());
         told.word(" ");
     }
+    Ok(())
+}
+
+fn tell_shared_texts(alloc: Global, told: &mut Told) -> Result<(), Memory> {
     for text in &["", "a", "a text of more than sixteen bytes"] {
         told.word(shared_text(alloc, text)?.text());
         told.word(" ");
     }
+    Ok(())
+}
+
+/// Tells shared names and texts, which outlive what they were made of, and what a box holds.
+pub fn tell_shared(alloc: Global, told: &mut Told) -> Result<(), Memory> {
+    tell_shared_names(alloc, told)?;
+    tell_shared_texts(alloc, told)?;
     let boxed = Boxed::new(alloc, 7)?;
     told.number("", *boxed.get());
     told.number(" ", boxed.into_inner());

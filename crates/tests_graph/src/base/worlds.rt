@@ -73,7 +73,9 @@ const SYNCED: &[Call] = &[
 ];
 
 /// The first area, the room, which call fails, and the calls.
-const WORLDS: &[(&[u8], u64, u64, &[Call])] = &[
+type Row = (&'static [u8], u64, u64, &'static [Call]);
+
+const WORLDS: &[Row] = &[
     (&[], 6, 1, EACH),
     (&[], 6, 2, EACH),
     (&[], 6, 3, EACH),
@@ -90,16 +92,8 @@ fn world(alloc: Global, a: &[u8], room: u64, fails: u64) -> Result<MemWorld, Mem
     MemWorld::new(alloc, a, List::new(alloc), room.min(10), fail)
 }
 
-/// Tells what the calls answer, both areas and the output then, and what a stop leaves of the first area where unsynced bytes are filled with 0.
-fn tell_world(
-    alloc: Global,
-    mut world: MemWorld,
-    calls: &[Call],
-    told: &mut Told,
-) -> Result<(), Memory> {
-    for call in calls {
-        tell_call(&mut world, call, told);
-    }
+/// Tells both areas and the output, and what a stop leaves of the first area where unsynced bytes are filled with 0.
+fn tell_left(alloc: Global, world: MemWorld, told: &mut Told) -> Result<(), Memory> {
     told.bytes(";", world.bytes(Area::A));
     told.bytes(";", world.bytes(Area::B));
     told.bytes(";", world.output());
@@ -108,10 +102,20 @@ fn tell_world(
     Ok(())
 }
 
+/// Tells what the calls of a row answer, and what there is then.
+fn tell_row(alloc: Global, row: &Row, told: &mut Told) -> Result<(), Memory> {
+    let (a, room, fails, calls) = *row;
+    let mut world = world(alloc, a, room, fails)?;
+    for call in calls {
+        tell_call(&mut world, call, told);
+    }
+    tell_left(alloc, world, told)
+}
+
 /// Tells each world.
 pub fn tell(alloc: Global, told: &mut Told) -> Result<(), Memory> {
-    for (a, room, fails, calls) in WORLDS {
-        tell_world(alloc, world(alloc, a, *room, *fails)?, calls, told)?;
+    for row in WORLDS {
+        tell_row(alloc, row, told)?;
         told.word("|");
     }
     Ok(())
