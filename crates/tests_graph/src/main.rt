@@ -65,7 +65,7 @@ enum Graphs {
 
 /// Lines and texts.
 #[derive(Clone, Copy)]
-enum Texts {
+enum Lines {
     Causes(Kind),
     Nested,
     Bytes,
@@ -78,7 +78,7 @@ enum Texts {
 enum Case {
     Ground(Ground),
     Graphs(Graphs),
-    Texts(Texts),
+    Lines(Lines),
 }
 
 const CASES: &[(&str, Case)] = &[
@@ -109,16 +109,16 @@ const CASES: &[(&str, Case)] = &[
     ),
     ("checks of drawn changes", Case::Graphs(Graphs::Checked)),
     ("what drawn changes affect", Case::Graphs(Graphs::Affected)),
-    ("causes of bytes", Case::Texts(Texts::Causes(Kind::Bytes))),
-    ("causes of lines", Case::Texts(Texts::Causes(Kind::Lines))),
+    ("causes of bytes", Case::Lines(Lines::Causes(Kind::Bytes))),
+    ("causes of lines", Case::Lines(Lines::Causes(Kind::Lines))),
     (
         "causes of operations",
-        Case::Texts(Texts::Causes(Kind::Ops)),
+        Case::Lines(Lines::Causes(Kind::Ops)),
     ),
-    ("causes of nested arrays", Case::Texts(Texts::Nested)),
-    ("bytes beside serde_json", Case::Texts(Texts::Bytes)),
-    ("texts of limits", Case::Texts(Texts::Limits)),
-    ("canonical texts", Case::Texts(Texts::Canonical)),
+    ("causes of nested arrays", Case::Lines(Lines::Nested)),
+    ("bytes beside serde_json", Case::Lines(Lines::Bytes)),
+    ("texts of limits", Case::Lines(Lines::Limits)),
+    ("canonical texts", Case::Lines(Lines::Canonical)),
 ];
 
 fn tell_ground(alloc: Global, case: Ground, told: &mut Told) -> Result<(), Memory> {
@@ -153,14 +153,14 @@ fn tell_graphs(rt: &HostRuntime, case: Graphs, told: &mut Told) -> Result<(), Me
     }
 }
 
-fn tell_texts(rt: &HostRuntime, case: Texts, told: &mut Told) -> Result<(), Memory> {
+fn tell_texts(rt: &HostRuntime, case: Lines, told: &mut Told) -> Result<(), Memory> {
     let alloc = rt.alloc();
     match case {
-        Texts::Causes(kind) => causes::rows::tell(rt, kind, told),
-        Texts::Nested => causes::rows::tell_nested(alloc, told),
-        Texts::Bytes => causes::bytes::tell(alloc, told),
-        Texts::Limits => texts::tell_past(alloc, told),
-        Texts::Canonical => texts::tell_lines(alloc, told),
+        Lines::Causes(kind) => causes::rows::tell(rt, kind, told),
+        Lines::Nested => causes::rows::tell_nested(alloc, told),
+        Lines::Bytes => causes::bytes::tell(alloc, told),
+        Lines::Limits => texts::tell_past(alloc, told),
+        Lines::Canonical => texts::tell_lines(alloc, told),
     }
 }
 
@@ -168,7 +168,7 @@ fn tell(rt: &HostRuntime, case: Case, told: &mut Told) -> Result<(), Memory> {
     match case {
         Case::Ground(case) => tell_ground(rt.alloc(), case, told),
         Case::Graphs(case) => tell_graphs(rt, case, told),
-        Case::Texts(case) => tell_texts(rt, case, told),
+        Case::Lines(case) => tell_texts(rt, case, told),
     }
 }
 
