@@ -1,6 +1,6 @@
 //! What stands in the two areas of a store, by the public calls of `pgs_codec`, `pgs_journal` and `pgs_snapshot`.
 
 pub mod areas;
-mod payloads;
-mod reads;
+pub mod payloads;
+pub mod reads;
 pub mod written;

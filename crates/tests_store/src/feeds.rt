@@ -8,7 +8,6 @@ use pgs_world::{Feed, FeedFault, MemFeed};
 use std::alloc::Global;
 use std::cell::Cell;
 use std::rc::Rc;
-use std::test::Fail;
 
 /// Where a feed goes when it is dropped.
 type Report = Rc<Cell<Option<MemFeed>>>;
@@ -47,11 +46,33 @@ fn failing(alloc: Global, put: u64) -> Result<MemFeed, Memory> {
 }
 
 /// Subscribes the feed, and gives its place.
-fn subscribe<F: Feed>(feeds: &mut FeedList<F>, feed: F) -> Result<usize, Memory> {
+fn subscribe<F: Feed>(feeds: &mut FeedList<F>, feed: F) -> Result<u64, Memory> {
     match feeds.subscribe(feed) {
-        Ok(place) => Ok(place),
+        Ok(place) => Ok(place as u64),
         Err((_feed, memory)) => Err(memory),
     }
+}
+
+type Feeds = FeedList<Box<dyn Feed>>;
+
+fn subscribe_failing(feeds: &mut Feeds, alloc: Global, put: u64) -> Result<u64, Memory> {
+    let feed = failing(alloc, put)?;
+    subscribe(feeds, Box::new(alloc, feed)?)
+}
+
+fn subscribe_reporting(feeds: &mut Feeds, alloc: Global, report: &Report) -> Result<u64, Memory> {
+    let feed = failing(alloc, 0)?;
+    let report = report.clone()?;
+    subscribe(feeds, Box::new(alloc, Reporting { feed, report })?)
+}
+
+/// Subscribes four feeds, of which the second reports, and the third fails at its second line; and gives their places.
+fn subscribe_four(feeds: &mut Feeds, alloc: Global, report: &Report) -> Result<[u64; 4], Memory> {
+    let first = subscribe_failing(feeds, alloc, 0)?;
+    let second = subscribe_reporting(feeds, alloc, report)?;
+    let third = subscribe_failing(feeds, alloc, 2)?;
+    let fourth = subscribe_failing(feeds, alloc, 0)?;
+    Ok([first, second, third, fourth])
 }
 
 /// Delivers a line, drops the feed at place 1, tries to drop it again, and delivers another line and an empty one: what the drops answered,
@@ -66,50 +87,43 @@ fn deliver<F: Feed>(feeds: &mut FeedList<F>) -> ([bool; 2], [u64; 3]) {
     (dropped, [first, second, feeds.lost()])
 }
 
-/// Whether the first and the last feed show both lines, that at place 1 nothing, and that at place 2 the first line.
-fn shows<F: Feed>(feeds: &FeedList<F>) -> [bool; 4] {
-    let both = Some(b"x\ny\n".as_slice());
-    [
-        feeds.shown(0) == both,
-        feeds.shown(1) == None,
-        feeds.shown(2) == Some(b"x\n".as_slice()),
-        feeds.shown(3) == both,
-    ]
+/// Puts what a feed shows.
+fn put_shown(out: &mut String, shown: Option<&[u8]>) -> Result<(), Memory> {
+    match shown {
+        Some(bytes) => writeln!(out, "{:?}", str::from_utf8(bytes).unwrap_or("no text"))?,
+        None => out.push_str("nothing\n")?,
+    }
+    Ok(())
 }
 
-/// Whether a feed was dropped, and took the first line alone.
-fn took_first_line(report: &Report) -> bool {
+/// Puts what each of four feeds shows.
+fn put_all_shown<F: Feed>(out: &mut String, feeds: &FeedList<F>) -> Result<(), Memory> {
+    for place in 0..4 {
+        put_shown(out, feeds.shown(place))?;
+    }
+    Ok(())
+}
+
+/// Puts what the feed that was dropped took.
+fn put_report(out: &mut String, report: &Report) -> Result<(), Memory> {
     match report.take() {
-        Some(feed) => feed.shown() == Some(b"x\n".as_slice()),
-        None => false,
+        Some(feed) => put_shown(out, feed.shown()),
+        None => put_shown(out, None),
     }
 }
 
-/// What is seen of feeds: their places, what drops answered, how many were lost, what they show, and what was reported.
-type Seen = ([usize; 4], ([bool; 2], [u64; 3]), [bool; 4], bool);
-
-/// Four feeds, of which the second is dropped between two lines, and the third fails at its second line.
-fn four_feeds(alloc: Global) -> Result<Seen, Memory> {
-    let report = Rc::new(alloc, Cell::new(None))?;
-    let second = Reporting {
-        feed: failing(alloc, 0)?,
-        report: report.clone()?,
-    };
-    let mut feeds: FeedList<Box<dyn Feed>> = FeedList::new(alloc);
-    let places = [
-        subscribe(&mut feeds, Box::new(alloc, failing(alloc, 0)?)?)?,
-        subscribe(&mut feeds, Box::new(alloc, second)?)?,
-        subscribe(&mut feeds, Box::new(alloc, failing(alloc, 2)?)?)?,
-        subscribe(&mut feeds, Box::new(alloc, failing(alloc, 0)?)?)?,
-    ];
-    let answered = deliver(&mut feeds);
-    let reported = took_first_line(&report);
-    Ok((places, answered, shows(&feeds), reported))
+/// Puts the places of four feeds, what their drops answer, how many are lost, what the dropped one took, while the others stay, and what each shows.
+fn put_seen(out: &mut String, alloc: Global, report: &Report) -> Result<(), Memory> {
+    let mut feeds: Feeds = FeedList::new(alloc);
+    let places = subscribe_four(&mut feeds, alloc, report)?;
+    let (dropped, lost) = deliver(&mut feeds);
+    writeln!(out, "places {places:?}, drops {dropped:?}, lost {lost:?}")?;
+    put_report(out, report)?;
+    put_all_shown(out, &feeds)
 }
 
-#[test]
-fn feeds_that_fail_or_are_dropped_take_no_more(rt: HostRuntime) -> Result<(), Fail> {
-    let wanted = ([0, 1, 2, 3], ([true, false], [0, 1, 1]), [true; 4], true);
-    assert_eq!(rt; four_feeds(rt.alloc())?, wanted);
-    Ok(())
+/// Puts this of feeds of which the second is dropped between two lines, and the third fails at its second line.
+pub fn put(out: &mut String, alloc: Global) -> Result<(), Memory> {
+    let report = Rc::new(alloc, Cell::new(None))?;
+    put_seen(out, alloc, &report)
 }

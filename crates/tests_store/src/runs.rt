@@ -1,7 +1,7 @@
 //! Whole runs of commands that are stopped, that get no memory, and over areas of which each byte was changed.
 
 mod cases;
-mod damage;
-mod memory;
+pub mod damage;
+pub mod memory;
 mod over;
-mod stops;
+pub mod stops;

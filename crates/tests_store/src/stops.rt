@@ -4,11 +4,11 @@
 use crate::disk::areas::chosen;
 use crate::disk::written::{make_store, write_checkpoint};
 use crate::images::{FIRST, GARBAGE, SECOND};
+use crate::lines::put_numbers;
 use crate::store::scenario::{Call, PROGRAM, answers, recovered};
 use pgs_base::{Bytes, List, Memory};
 use pgs_world::{Leave, MemWorld};
 use std::alloc::Global;
-use std::test::Fail;
 use tests_fixtures::LEAVINGS;
 
 /// What is written: a store with one record more, a checkpoint beside this store, or what calls on a store write.
@@ -74,79 +74,64 @@ impl Written {
     }
 }
 
-/// From which number of calls on, up to which one, and what is read back with each leaving.
-type Row = (u64, u64, [u64; 5]);
+/// What is written with what is read back then, and up to how many calls on the world.
+type Row = (&'static str, Written, u64);
 
-/// Ten times the epoch and the number of records: no store, the schema, the transaction behind it.
-const RECORD: &[Row] = &[
-    (0, 8, [0; 5]),
-    (9, 9, [0, 11, 0, 11, 0]),
-    (10, 12, [11; 5]),
-    (13, 13, [11, 12, 11, 12, 11]),
-    (14, 14, [12; 5]),
-];
-
-/// The same: the store, and the checkpoint of the next epoch.
-const CHECKPOINT: &[Row] = &[
-    (0, 7, [12; 5]),
-    (8, 8, [12, 22, 12, 22, 12]),
-    (9, 9, [22; 5]),
-];
-
-/// Ten times the epoch and the number of commits: no store, the store of epoch 1 after no commit and after one, the checkpoint.
-const RENEWED: &[Row] = &[
-    (0, 12, [30_000; 5]),
-    (13, 13, [30_000, 10, 30_000, 10, 30_000]),
-    (14, 16, [10; 5]),
-    (17, 17, [10, 11, 10, 11, 10]),
-    (18, 26, [11; 5]),
-    (27, 27, [11, 21, 11, 21, 11]),
-    (28, 28, [21; 5]),
-];
-
-/// The same, and a million for the one type of the second schema.
-const EVOLVED: &[Row] = &[
-    (14, 16, [10; 5]),
-    (18, 20, [11; 5]),
-    (21, 21, [11, 1_000_011, 11, 1_000_011, 11]),
-    (22, 24, [1_000_011; 5]),
-];
-
-const STOPS: [(Written, &[Row]); 5] = [
-    (Written::Record, RECORD),
-    (Written::Checkpoint(FIRST), CHECKPOINT),
-    (Written::Checkpoint(SECOND), CHECKPOINT),
+const STOPS: [Row; 5] = [
     (
-        Written::Calls(&[Call::Add(&[1]), Call::Checkpoint]),
-        RENEWED,
+        "A record: no store, the schema, the transaction behind it",
+        Written::Record,
+        14,
     ),
     (
+        "A checkpoint beside a store of the first format: the store, the checkpoint of the next epoch",
+        Written::Checkpoint(FIRST),
+        9,
+    ),
+    (
+        "A checkpoint beside one of the second: the same",
+        Written::Checkpoint(SECOND),
+        9,
+    ),
+    (
+        "A node and a checkpoint: no store, epoch 1 after no commit and after one, the checkpoint",
+        Written::Calls(&[Call::Add(&[1]), Call::Checkpoint]),
+        28,
+    ),
+    (
+        "A node and another schema: no store, epoch 1 after no commit and after one, and a million for its one type",
         Written::Calls(&[
             Call::Add(&[1]),
             Call::Evolve("CREATE GRAPH TYPE g STRICT {(t)};"),
         ]),
-        EVOLVED,
+        24,
     ),
 ];
 
-/// The first number of calls of a row after which something else is read back.
-fn wrong_stop(alloc: Global, written: &Written, row: &Row) -> Result<Option<u64>, Memory> {
-    for calls in row.0..=row.1 {
-        for (how, state) in LEAVINGS.iter().zip(&row.2) {
-            if written.left_after(alloc, calls, *how)? != *state {
-                return Ok(Some(calls));
-            }
-        }
+/// Puts what is read back with each leaving after so many calls.
+fn put_stop(out: &mut String, alloc: Global, written: &Written, calls: u64) -> Result<(), Memory> {
+    let mut found = [0; 5];
+    for (place, how) in found.iter_mut().zip(&LEAVINGS) {
+        *place = written.left_after(alloc, calls, *how)?;
     }
-    Ok(None)
+    write!(out, "{calls}:")?;
+    put_numbers(out, &found)
 }
 
-#[test]
-fn each_stop_leaves_the_state_before_or_after(rt: HostRuntime) -> Result<(), Fail> {
-    for (place, (written, rows)) in STOPS.iter().enumerate() {
-        for row in *rows {
-            assert_eq!(rt; wrong_stop(rt.alloc(), written, row)?, None, "{place}");
-        }
+/// Puts this of each number of calls.
+fn put_row(out: &mut String, alloc: Global, row: &Row) -> Result<(), Memory> {
+    let (name, written, last) = row;
+    writeln!(out, "{name}")?;
+    for calls in 0..=*last {
+        put_stop(out, alloc, written, calls)?;
+    }
+    Ok(())
+}
+
+/// Puts each stop of what is written.
+pub fn put(out: &mut String, alloc: Global) -> Result<(), Memory> {
+    for row in &STOPS {
+        put_row(out, alloc, row)?;
     }
     Ok(())
 }

@@ -1,10 +1,10 @@
-//! Which of two areas is chosen: every pair of fifteen images, of both formats, beside the rule on what the images are.
+//! Which of two areas is chosen: every pair of fifteen images, of both formats. It is that of the greater epoch, and of equal ones area A; where it
+//! is damaged, its damaged record is told. Of two areas without a store another program's is told before none.
 
 use pgs_base::{Bytes, List, Memory};
 use pgs_snapshot::{ChooseFault, choose_area};
 use pgs_world::{Area, MemWorld};
 use std::alloc::Global;
-use std::test::Fail;
 
 /// What stands behind a head: the record of a schema and a closed gate.
 const SCHEMA: &str = "\x01\0\0\0\0\0\0\0\x1e\x01CREATE GRAPH TYPE g LOOSE {};\0";
@@ -33,25 +33,27 @@ const MISNUMBERED: &str =
     "\x01\0\0\0\0\0\0\0\x02\0\0\0\0\0\0\0\x1e\x01CREATE GRAPH TYPE g LOOSE {};\0";
 
 /// An area: the seven bytes of its format and the epoch of its store, or, with 0 for the epoch, all bytes of an area that is no
-/// store; what stands behind its head; and the record at which the store is damaged, or 1 for a foreign area, else 0.
-type Image = (&'static str, u64, &'static str, u64);
+/// store; and what stands behind its head.
+type Image = (&'static str, u64, &'static str);
 
+/// An empty area, an open gate alone, a closed area and another program's; stores of the first format, of which the last four are damaged, at
+/// the records 1, 2, 3 and 2; and stores of the second format, of which the last one is damaged at record 1.
 const IMAGES: [Image; 15] = [
-    ("", 0, "", 0),
-    ("", 0, "\x01", 0),
-    ("", 0, "\0xxxxxxxxxxxxxxxxxxxxxxxxxxxxxxxxxxxxxxx", 0),
-    ("", 0, "\x01xxxxxxxxxxxxxxxxxxxxxxxxxxxxxxxxxxxxxxx", 1),
-    ("PGSGRD1", 1, SCHEMA, 0),
-    ("PGSGRD1", 2, SCHEMA, 0),
-    ("PGSGRD1", 16_777_215, SCHEMA, 0),
-    ("PGSGRD1", 3, "\0", 1),
-    ("PGSGRD1", 2, SCHEMA_TORN, 2),
-    ("PGSGRD1", 1, TWO_TORN, 3),
-    ("PGSGRD1", 4, SCHEMA_TWICE, 2),
-    ("PGSGRD2", 1, NUMBERED, 0),
-    ("PGSGRD2", 3, NUMBERED, 0),
-    ("PGSGRD2", 2, NUMBERED_TWICE, 0),
-    ("PGSGRD2", 4, MISNUMBERED, 1),
+    ("", 0, ""),
+    ("", 0, "\x01"),
+    ("", 0, "\0xxxxxxxxxxxxxxxxxxxxxxxxxxxxxxxxxxxxxxx"),
+    ("", 0, "\x01xxxxxxxxxxxxxxxxxxxxxxxxxxxxxxxxxxxxxxx"),
+    ("PGSGRD1", 1, SCHEMA),
+    ("PGSGRD1", 2, SCHEMA),
+    ("PGSGRD1", 16_777_215, SCHEMA),
+    ("PGSGRD1", 3, "\0"),
+    ("PGSGRD1", 2, SCHEMA_TORN),
+    ("PGSGRD1", 1, TWO_TORN),
+    ("PGSGRD1", 4, SCHEMA_TWICE),
+    ("PGSGRD2", 1, NUMBERED),
+    ("PGSGRD2", 3, NUMBERED),
+    ("PGSGRD2", 2, NUMBERED_TWICE),
+    ("PGSGRD2", 4, MISNUMBERED),
 ];
 
 /// The bytes of an image.
@@ -70,22 +72,6 @@ fn bytes_of(alloc: Global, image: &Image) -> Result<Bytes, Memory> {
 /// this epoch in area A and B.
 pub type Answer = (u8, u64);
 
-/// What the rule says of two images.
-fn rule(a: &Image, b: &Image) -> Answer {
-    let (kind, epoch, number) = if b.1 > a.1 {
-        (4, b.1, b.3)
-    } else {
-        (3, a.1, a.3)
-    };
-    if epoch == 0 {
-        (if a.3 == 1 || b.3 == 1 { 1 } else { 0 }, 0)
-    } else if number > 0 {
-        (2, number)
-    } else {
-        (kind, epoch)
-    }
-}
-
 /// What is chosen of two areas, and the number of its records.
 pub fn chosen(alloc: Global, a: Bytes, b: Bytes) -> Result<(Answer, u64), Memory> {
     let mut world = MemWorld::new(alloc, a, b, 256, List::new(alloc))?;
@@ -102,14 +88,34 @@ pub fn chosen(alloc: Global, a: Bytes, b: Bytes) -> Result<(Answer, u64), Memory
     }
 }
 
-#[test]
-fn each_pair_is_chosen_by_the_rule(rt: HostRuntime) -> Result<(), Fail> {
-    let alloc = rt.alloc();
+/// Puts an answer.
+fn put_answer(out: &mut String, answer: Answer) -> Result<(), Memory> {
+    let (kind, number) = answer;
+    match kind {
+        0 => out.push_str(" -")?,
+        1 => out.push_str(" x")?,
+        2 => write!(out, " r{number}")?,
+        3 => write!(out, " A{number}")?,
+        4 => write!(out, " B{number}")?,
+        _ => out.push_str(" fault")?,
+    }
+    Ok(())
+}
+
+/// Puts what is chosen of an image in area A and each image in area B.
+fn put_pairs(out: &mut String, alloc: Global, a: &Image) -> Result<(), Memory> {
+    for b in &IMAGES {
+        let (answer, _) = chosen(alloc, bytes_of(alloc, a)?, bytes_of(alloc, b)?)?;
+        put_answer(out, answer)?;
+    }
+    out.push_str("\n")?;
+    Ok(())
+}
+
+/// Puts what is chosen of each pair: a line for each image in area A, in which stands each image in area B.
+pub fn put(out: &mut String, alloc: Global) -> Result<(), Memory> {
     for a in &IMAGES {
-        for b in &IMAGES {
-            let (found, _) = chosen(alloc, bytes_of(alloc, a)?, bytes_of(alloc, b)?)?;
-            assert_eq!(rt; found, rule(a, b));
-        }
+        put_pairs(out, alloc, a)?;
     }
     Ok(())
 }

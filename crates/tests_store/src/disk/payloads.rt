@@ -4,56 +4,6 @@ use pgs_base::Memory;
 use pgs_codec::{Command, decode, encode, frame};
 use pgs_graph::Op;
 use std::alloc::Global;
-use std::test::Fail;
-
-/// What is damaged, a payload, and the payload with that damage, as `bytes_of` reads them. Written by hand from the table of fields.
-const MISSES: &str = r#"a kind of command | 01 | 00
-a kind past the last | 03 00000000 | 04 00000000
-nothing at all | 01 |
-a count without its last byte | 03 00000000 | 03 000000
-a byte after the last operation | 03 00000001 01 :1 0000 0000 | 03 00000001 01 :1 0000 0000 00
-a count one too many | 03 00000001 01 :1 0000 0000 | 03 00000002 01 :1 0000 0000
-a count one too few | 03 00000002 01 :1 0000 0000 01 :1 0000 0000 | 03 00000001 01 :1 0000 0000 01 :1 0000 0000
-a count of all there is | 03 00000000 | 03 ffffffff 00000000 00000000 00000000 000000
-an operation of kind 0 | 03 00000001 03 :1 | 03 00000001 00 :1
-an operation of kind 14 | 03 00000001 0d :1 01 =a | 03 00000001 0e :1 01 =a
-a number of seven bytes | 03 00000001 05 :1 | 03 00000001 05 00000000000000
-an operation with another field | 03 00000001 04 :1 | 03 00000001 04 :1 01 =a
-an empty name | 03 00000001 08 :1 01 =a | 03 00000001 08 :1 00
-a name that begins with a digit | 03 00000001 08 :1 02 =a1 | 03 00000001 08 :1 02 =1a
-a name with a space | 03 00000001 09 :1 03 =a_b | 03 00000001 09 :1 03 612062
-a name of 65 bytes | 03 00000001 07 :1 40 =nnnnnnnnnnnnnnnnnnnnnnnnnnnnnnnnnnnnnnnnnnnnnnnnnnnnnnnnnnnnnnnn | 03 00000001 07 :1 41 =nnnnnnnnnnnnnnnnnnnnnnnnnnnnnnnnnnnnnnnnnnnnnnnnnnnnnnnnnnnnnnnnn
-a name longer than what is left | 03 00000001 0c :1 02 =ab | 03 00000001 0c :1 03 =ab
-labels that descend | 03 00000001 01 :1 0002 01 =A 01 =B 0000 | 03 00000001 01 :1 0002 01 =B 01 =A 0000
-a label twice | 03 00000001 01 :1 0002 01 =A 02 =AA 0000 | 03 00000001 01 :1 0002 01 =A 01 =A 0000
-fewer labels than counted | 03 00000001 01 :1 0001 01 =A 0000 | 03 00000001 01 :1 0002 01 =A 0000
-keys that descend | 03 00000001 01 :1 0000 0002 01 =a 03 00 01 =b 03 01 | 03 00000001 01 :1 0000 0002 01 =b 03 01 01 =a 03 00
-a key twice | 03 00000001 01 :1 0000 0002 01 =a 03 00 02 =ab 03 01 | 03 00000001 01 :1 0000 0002 01 =a 03 00 01 =a 03 01
-properties without their count | 03 00000001 01 :1 0000 0000 | 03 00000001 01 :1 0000
-a property without its value | 03 00000001 01 :1 0000 0001 01 =a 03 01 | 03 00000001 01 :1 0000 0001 01 =a
-a value of kind 0 | 03 00000001 06 :1 01 =a 03 01 | 03 00000001 06 :1 01 =a 00 01
-a value of kind 5 | 03 00000001 06 :1 01 =a 04 0001 01 01 | 03 00000001 06 :1 01 =a 05 0001 01 01
-a truth value of 2 | 03 00000001 0a :1 01 =a 03 01 | 03 00000001 0a :1 01 =a 03 02
-a text longer than what is left | 03 00000001 06 :1 01 =a 01 0002 =ab | 03 00000001 06 :1 01 =a 01 0003 =ab
-a text shorter than what is left | 03 00000001 06 :1 01 =a 01 0002 =ab | 03 00000001 06 :1 01 =a 01 0001 =a 62
-a text that is cut inside a character | 03 00000001 06 :1 01 =a 01 0002 c3a9 | 03 00000001 06 :1 01 =a 01 0001 c3
-a text with an overlong character | 03 00000001 06 :1 01 =a 01 0001 2f | 03 00000001 06 :1 01 =a 01 0002 c0af
-half of a surrogate pair | 03 00000001 06 :1 01 =a 01 0003 ed9fbf | 03 00000001 06 :1 01 =a 01 0003 eda080
-a whole number of seven bytes | 03 00000001 06 :1 01 =a 02 fffffffffffffffe | 03 00000001 06 :1 01 =a 02 ffffffffffffff
-the 30 February | 03 00000001 06 :1 01 =a 04 07e8 02 1d | 03 00000001 06 :1 01 =a 04 07e8 02 1e
-the 29 February of no leap year | 03 00000001 06 :1 01 =a 04 07d0 02 1d | 03 00000001 06 :1 01 =a 04 076c 02 1d
-the month 13 | 03 00000001 06 :1 01 =a 04 07e7 0c 1f | 03 00000001 06 :1 01 =a 04 07e7 0d 01
-the day 0 | 03 00000001 06 :1 01 =a 04 0001 01 01 | 03 00000001 06 :1 01 =a 04 0001 01 00
-the year 0 | 03 00000001 06 :1 01 =a 04 0001 01 01 | 03 00000001 06 :1 01 =a 04 0000 01 01
-the year 10000 | 03 00000001 06 :1 01 =a 04 270f 0c 1f | 03 00000001 06 :1 01 =a 04 2710 01 01
-nodes that descend | 02 :9 :2 :1 0000 0000 :2 0000 0000 :0 | 02 :9 :2 :2 0000 0000 :1 0000 0000 :0
-a node twice | 02 :9 :2 :1 0000 0000 :2 0000 0000 :0 | 02 :9 :2 :1 0000 0000 :1 0000 0000 :0
-edges that descend | 02 :9 :1 :1 0000 0000 :2 :1 :1 :1 0000 0000 :2 :1 :1 0000 0000 | 02 :9 :1 :1 0000 0000 :2 :2 :1 :1 0000 0000 :1 :1 :1 0000 0000
-an edge whose source is no node | 02 :9 :1 :1 0000 0000 :1 :1 :1 :1 0000 0000 | 02 :9 :1 :1 0000 0000 :1 :1 :2 :1 0000 0000
-an edge whose target is no node | 02 :9 :1 :1 0000 0000 :1 :1 :1 :1 0000 0000 | 02 :9 :1 :1 0000 0000 :1 :1 :1 :2 0000 0000
-more nodes than there are | 02 :9 :0 :0 | 02 :9 :1 :0
-a count of all numbers | 02 :9 :0 :0 | 02 :9 ffffffffffffffff :0
-a byte after the edges | 02 :9 :0 :0 | 02 :9 :0 :0 00"#;
 
 /// The value of a hexadecimal digit.
 fn digit(byte: u8) -> u8 {
@@ -105,22 +55,26 @@ fn taken(alloc: Global, payload: &[u8]) -> Result<u8, Memory> {
     }
 }
 
-/// The same of both payloads of a line.
-fn both_taken(alloc: Global, line: &str) -> Result<(u8, u8), Memory> {
-    let (_, both) = line.split_once('|').unwrap_or(("", ""));
-    let (whole, damaged) = both.split_once('|').unwrap_or(("", ""));
-    let whole = bytes_of(alloc, whole)?;
-    let damaged = bytes_of(alloc, damaged)?;
-    Ok((
-        taken(alloc, whole.as_slice())?,
-        taken(alloc, damaged.as_slice())?,
-    ))
+/// The same of a payload's words.
+fn words_taken(alloc: Global, words: &str) -> Result<u8, Memory> {
+    let payload = bytes_of(alloc, words)?;
+    taken(alloc, payload.as_slice())
 }
 
-#[test]
-fn each_field_is_kept_from_its_nearest_misses(rt: HostRuntime) -> Result<(), Fail> {
-    for line in MISSES.split_terminator('\n') {
-        assert_eq!(rt; both_taken(rt.alloc(), line)?, (1, 0), "{line}");
+/// Puts what is taken of the two payloads of a line: what is damaged, a payload, and the payload with that damage.
+fn put_miss(out: &mut String, alloc: Global, line: &str) -> Result<(), Memory> {
+    let (name, both) = line.split_once(" | ").unwrap_or((line, ""));
+    let (whole, damaged) = both.split_once(" |").unwrap_or((both, ""));
+    let whole = words_taken(alloc, whole)?;
+    let damaged = words_taken(alloc, damaged)?;
+    writeln!(out, "{name}: {whole} {damaged}")?;
+    Ok(())
+}
+
+/// Puts this of each line, which is written by hand from the table of fields.
+pub fn put_misses(out: &mut String, alloc: Global, lines: &str) -> Result<(), Memory> {
+    for line in lines.split_terminator('\n') {
+        put_miss(out, alloc, line)?;
     }
     Ok(())
 }
@@ -143,49 +97,60 @@ fn fronts_taken(alloc: Global, payload: &[u8]) -> Result<usize, Memory> {
     Ok(count)
 }
 
-/// A transaction that adds a node with so many labels, or so many properties that are true.
-fn wide(alloc: Global, labels: u8, props: u16) -> Result<Vec<u8>, Memory> {
-    let mut payload = Vec::from_slice(alloc, b"\x03\0\0\0\x01\x01\0\0\0\0\0\0\0\x07\0")?;
+/// Adds so many labels, and their count.
+fn add_labels(payload: &mut Vec<u8>, labels: u8) -> Result<(), Memory> {
     payload.push(labels)?;
     for label in 0..labels {
         payload.extend_from_slice(&[2, b'a' + label / 16, b'a' + label % 16])?;
     }
+    Ok(())
+}
+
+/// Adds so many properties that are true, and their count.
+fn add_props(payload: &mut Vec<u8>, props: u16) -> Result<(), Memory> {
     payload.extend_from_slice(&props.to_be_bytes())?;
     for key in 0..props {
         let low = (key % 16) as u8;
         let high = (key / 16 % 26) as u8;
         payload.extend_from_slice(&[2, b'a' + high, b'a' + low, 3, 1])?;
     }
+    Ok(())
+}
+
+/// A transaction that adds a node with so many labels, or so many properties that are true.
+fn wide(alloc: Global, labels: u8, props: u16) -> Result<Vec<u8>, Memory> {
+    let mut payload = Vec::from_slice(alloc, b"\x03\0\0\0\x01\x01\0\0\0\0\0\0\0\x07\0")?;
+    add_labels(&mut payload, labels)?;
+    add_props(&mut payload, props)?;
     Ok(payload)
 }
 
-/// Whether a transaction with so many is taken.
-fn wide_taken(alloc: Global, labels: u8, props: u16) -> Result<u8, Memory> {
+/// How many labels and how many properties.
+const WIDE: [(u8, u16); 4] = [(64, 0), (65, 0), (0, 256), (0, 257)];
+
+/// Puts whether a transaction with so many is taken.
+fn put_wide(out: &mut String, alloc: Global, labels: u8, props: u16) -> Result<(), Memory> {
     let payload = wide(alloc, labels, props)?;
-    taken(alloc, payload.as_slice())
+    let taken = taken(alloc, payload.as_slice())?;
+    writeln!(out, "{labels} labels and {props} properties: {taken}")?;
+    Ok(())
 }
 
-/// What is taken of the transaction of all operations, and of its fronts; of 64 and 65 labels; of 256 and 257 properties.
-fn greatest_taken(alloc: Global) -> Result<(u8, usize, [u8; 4]), Memory> {
+/// Puts what is taken of the transaction of all operations, and of its fronts.
+fn put_all_kinds(out: &mut String, alloc: Global) -> Result<(), Memory> {
     let all = bytes_of(alloc, OF_ALL_KINDS)?;
-    let wide = [
-        wide_taken(alloc, 64, 0)?,
-        wide_taken(alloc, 65, 0)?,
-        wide_taken(alloc, 0, 256)?,
-        wide_taken(alloc, 0, 257)?,
-    ];
-    Ok((
-        taken(alloc, all.as_slice())?,
-        fronts_taken(alloc, all.as_slice())?,
-        wide,
-    ))
+    let whole = taken(alloc, all.as_slice())?;
+    let fronts = fronts_taken(alloc, all.as_slice())?;
+    writeln!(out, "all operations: {whole}\nfronts: {fronts}")?;
+    Ok(())
 }
 
-#[test]
-fn all_operations_are_taken_only_whole_and_rows_up_to_their_limits(
-    rt: HostRuntime,
-) -> Result<(), Fail> {
-    assert_eq!(rt; greatest_taken(rt.alloc())?, (1, 0, [1, 0, 1, 0]));
+/// Puts what is taken of the transaction of all operations, of its fronts, and of those with the most labels and properties.
+pub fn put_greatest(out: &mut String, alloc: Global) -> Result<(), Memory> {
+    put_all_kinds(out, alloc)?;
+    for (labels, props) in &WIDE {
+        put_wide(out, alloc, *labels, *props)?;
+    }
     Ok(())
 }
 
@@ -222,49 +187,39 @@ const TXN: &[u8] = b"\x03\0\0\0\x01\x01\0\0\0\0\0\0\0\x01\0\0\0\0";
 const SNAPSHOT: &[u8] =
     b"\x02\0\0\0\0\0\0\0\x01\0\0\0\0\0\0\0\x01\0\0\0\0\0\0\0\x01\0\0\0\0\0\0\0\0\0\0\0\0";
 
-/// A payload, its command in numbers, and the number of a record, or none, and what stands before the payload in its frame then.
-type Framed = (
-    &'static [u8],
-    (u64, usize, usize),
-    Option<u64>,
-    &'static [u8],
-);
+/// A payload, and the number of its record, or none.
+type Framed = (&'static [u8], Option<u64>);
 
 const FRAMED: [Framed; 4] = [
-    (SCHEMA, (0, 29, 0), None, b"\0\0\0\0\0\0\0\x1e"),
-    (
-        SCHEMA,
-        (0, 29, 0),
-        Some(258),
-        b"\0\0\0\0\0\0\x01\x02\0\0\0\0\0\0\0\x1e",
-    ),
-    (TXN, (1, 0, 0), None, b"\0\0\0\0\0\0\0\x12"),
-    (
-        SNAPSHOT,
-        (1, 1, 0),
-        Some(2),
-        b"\0\0\0\0\0\0\0\x02\0\0\0\0\0\0\0\x25",
-    ),
+    (SCHEMA, None),
+    (SCHEMA, Some(258)),
+    (TXN, None),
+    (SNAPSHOT, Some(2)),
 ];
 
-/// Whether a payload is taken as this command, and framed so.
-fn is_framed(alloc: Global, row: &Framed) -> Result<bool, Memory> {
-    let (payload, wanted, number, before) = *row;
-    let mut bytes = Vec::from_slice(alloc, before)?;
-    bytes.extend_from_slice(payload)?;
-    bytes.push(0)?;
-    let found = frame(alloc, payload, number)?;
-    Ok(
-        taken(alloc, payload)? == 1
-            && numbers_in(alloc, payload)? == Some(wanted)
-            && found.as_slice() == bytes.as_slice(),
-    )
+/// Puts bytes as pairs of hexadecimal digits, and ends the line.
+fn put_pairs(out: &mut String, bytes: &[u8]) -> Result<(), Memory> {
+    for byte in bytes {
+        write!(out, "{byte:02x}")?;
+    }
+    out.push_str("\n")?;
+    Ok(())
 }
 
-#[test]
-fn worked_commands_have_their_bytes(rt: HostRuntime) -> Result<(), Fail> {
+/// Puts whether a payload is taken, the numbers of its command, and its frame.
+fn put_frame(out: &mut String, alloc: Global, row: &Framed) -> Result<(), Memory> {
+    let (payload, number) = *row;
+    let taken = taken(alloc, payload)?;
+    let numbers = numbers_in(alloc, payload)?;
+    let found = frame(alloc, payload, number)?;
+    write!(out, "{taken} {numbers:?} ")?;
+    put_pairs(out, found.as_slice())
+}
+
+/// Puts the same of each command.
+pub fn put_framed(out: &mut String, alloc: Global) -> Result<(), Memory> {
     for row in &FRAMED {
-        assert!(rt; is_framed(rt.alloc(), row)?, "{:?}", row.2);
+        put_frame(out, alloc, row)?;
     }
     Ok(())
 }

@@ -5,7 +5,6 @@ use pgs_base::{Bytes, List, Memory};
 use pgs_journal::{ScanFault, scan};
 use pgs_world::{Area, MemWorld};
 use std::alloc::Global;
-use std::test::Fail;
 
 /// A store of the first format of a schema, without the gate behind it.
 const FIRST: &[u8] =
@@ -15,53 +14,81 @@ const FIRST: &[u8] =
 const SECOND: &[u8] =
     b"\x01PGSGRD2\0\0\0\0\0\0\0\x01\x01\0\0\0\0\0\0\0\x01\0\0\0\0\0\0\0\x1e\x01CREATE GRAPH TYPE g LOOSE {};";
 
-/// The front of an area, the rest of it, and the calls.
-type Row = (&'static [u8], &'static [u8], u64);
+/// What an area is, its front, and the rest of it.
+type Row = (&'static str, &'static [u8], &'static [u8]);
 
-const CALLS: [Row; 17] = [
-    (b"", b"", 1),
-    (b"", b"\x01PGSGRD1xxxxxxxx", 1),
-    (b"", b"\0PGSGRD1xxxxxxxxxxxxxxxxxxxxxxxxxxxx", 2),
-    (b"", b"\x01PGSGRD2xxxxxxxxxxxxxxxxxxxxxxxxxxxx", 2),
-    (b"", b"\x01PGSGRD3\0\0\0\0\0\0\0\x01\x01xxxxxxxxxxxx", 2),
-    (FIRST, b"\0", 4),
-    (FIRST, b"\0\0\0\0\0\0\0\0\x05\x03\0\0\0\0\0", 4),
-    (FIRST, b"\x01\0\0\0\0\0\0\0\x05\x03\0\0\0\0\0", 6),
+const AREAS: [Row; 17] = [
+    ("empty", b"", b""),
+    ("shorter than a head", b"", b"\x01PGSGRD1xxxxxxxx"),
+    ("closed", b"", b"\0PGSGRD1xxxxxxxxxxxxxxxxxxxxxxxxxxxx"),
     (
+        "an epoch that is too great",
+        b"",
+        b"\x01PGSGRD2xxxxxxxxxxxxxxxxxxxxxxxxxxxx",
+    ),
+    (
+        "another format",
+        b"",
+        b"\x01PGSGRD3\0\0\0\0\0\0\0\x01\x01xxxxxxxxxxxx",
+    ),
+    ("a schema", FIRST, b"\0"),
+    (
+        "a schema, and behind a closed gate a record",
+        FIRST,
+        b"\0\0\0\0\0\0\0\0\x05\x03\0\0\0\0\0",
+    ),
+    (
+        "a schema and a record",
+        FIRST,
+        b"\x01\0\0\0\0\0\0\0\x05\x03\0\0\0\0\0",
+    ),
+    (
+        "a schema, another schema and a record",
         FIRST,
         b"\x01\0\0\0\0\0\0\0\x05\x01\0\0\0\0\x01\0\0\0\0\0\0\0\x05\x03\0\0\0\0\0",
-        6,
     ),
-    (FIRST, b"\x01\x7f\0\0\0\0\0\0\0\x03\0\0\0\0\0", 6),
-    (FIRST, b"\x01\0\0\0\0\0\0\0\x05", 5),
-    (SECOND, b"\0", 4),
     (
+        "a schema, and a record of a length that is too great",
+        FIRST,
+        b"\x01\x7f\0\0\0\0\0\0\0\x03\0\0\0\0\0",
+    ),
+    (
+        "a schema, and a record without its payload",
+        FIRST,
+        b"\x01\0\0\0\0\0\0\0\x05",
+    ),
+    ("a schema", SECOND, b"\0"),
+    (
+        "a schema, and behind a closed gate a record",
         SECOND,
         b"\0\0\0\0\0\0\0\0\x02\0\0\0\0\0\0\0\x05\x03\0\0\0\0\0",
-        4,
     ),
     (
+        "a schema and a record",
         SECOND,
         b"\x01\0\0\0\0\0\0\0\x02\0\0\0\0\0\0\0\x05\x03\0\0\0\0\0",
-        6,
     ),
     (
+        "a schema, and a record of another number",
         SECOND,
         b"\x01\0\0\0\0\0\0\0\x03\0\0\0\0\0\0\0\x05\x03\0\0\0\0\0",
-        5,
     ),
     (
+        "a schema, and a record of a length that is too great",
         SECOND,
         b"\x01\0\0\0\0\0\0\0\x02\x7f\0\0\0\0\0\0\0\x03\0\0\0\0\0",
-        6,
     ),
-    (SECOND, b"\x01\0\0\0\0\0\0\0\x02\0\0\0\0\0\0\0\x05", 5),
+    (
+        "a schema, and a record without its payload",
+        SECOND,
+        b"\x01\0\0\0\0\0\0\0\x02\0\0\0\0\0\0\0\x05",
+    ),
 ];
 
 /// The area of a row.
 fn area_of(alloc: Global, row: &Row) -> Result<Bytes, Memory> {
-    let mut bytes = Vec::from_slice(alloc, row.0)?;
-    bytes.extend_from_slice(row.1)?;
+    let mut bytes = Vec::from_slice(alloc, row.1)?;
+    bytes.extend_from_slice(row.2)?;
     Ok(List::from_vec(bytes))
 }
 
@@ -79,10 +106,11 @@ fn calls_of(alloc: Global, row: &Row) -> Result<u64, Memory> {
     Ok(16)
 }
 
-#[test]
-fn no_more_is_read_than_the_records(rt: HostRuntime) -> Result<(), Fail> {
-    for row in &CALLS {
-        assert_eq!(rt; calls_of(rt.alloc(), row)?, row.2, "{:?}", row.1);
+/// Puts the number of calls of each row.
+pub fn put(out: &mut String, alloc: Global) -> Result<(), Memory> {
+    for row in &AREAS {
+        let calls = calls_of(alloc, row)?;
+        writeln!(out, "{}: {calls}", row.0)?;
     }
     Ok(())
 }

@@ -1,12 +1,11 @@
-//! A store that is loaded, takes transactions, is checkpointed and gets another schema, while an allocation is refused. The test passes
-//! whichever is (`rt try --test --fail-alloc N`; `tools/hostile` tries them all).
+//! A store that is loaded, takes transactions, is checkpointed and gets another schema, while an allocation is refused. Nothing is
+//! lost whichever is (`tools/hostile` makes tests of it, and tries them all).
 
 use crate::runs::cases::{Case, LIFE, allows};
 use crate::runs::over::{ROOM, recovered, run_over, whole_lines};
 use pgs_base::{List, Memory};
 use pgs_world::{Area, MemWorld};
 use std::alloc::Global;
-use std::test::Fail;
 
 /// Both areas that a run left, its status, and whether what is recovered of them is right.
 #[derive(Drop)]
@@ -67,8 +66,9 @@ pub fn first_wrong(alloc: Global) -> Result<Option<&'static str>, Memory> {
     Ok(None)
 }
 
-#[test]
-fn a_refused_allocation_loses_nothing(rt: HostRuntime) -> Result<(), Fail> {
-    assert_eq!(rt; first_wrong(rt.alloc())?, None);
+/// Puts that nothing is lost, or after which command something is.
+pub fn put(out: &mut String, alloc: Global) -> Result<(), Memory> {
+    let wrong = first_wrong(alloc)?.unwrap_or("nothing is lost");
+    writeln!(out, "{wrong}")?;
     Ok(())
 }

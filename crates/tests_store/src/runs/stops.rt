@@ -1,12 +1,11 @@
 //! Each command that writes, stopped after each number of calls on its world, and each leaving of what it wrote, read back: at least as much
 //! as its whole lines say, and nothing but a state that there was.
 
-use crate::runs::cases::{Case, ENDS, allows};
+use crate::runs::cases::{Case, STARTS, allows};
 use crate::runs::over::{ROOM, recovered, run_over, whole_lines};
 use pgs_base::{List, Memory};
 use pgs_world::{Leave, MemWorld};
 use std::alloc::Global;
-use std::test::Fail;
 
 const WAYS: [Leave; 5] = [
     Leave::Old,
@@ -42,8 +41,8 @@ fn all_leave_right(
     calls: u64,
 ) -> Result<(bool, bool), Memory> {
     let (mut right, mut ended) = (true, true);
-    for how in WAYS {
-        let found = leaves_right(alloc, start, case, calls, how)?;
+    for how in &WAYS {
+        let found = leaves_right(alloc, start, case, calls, *how)?;
         right = right && found.0;
         ended = ended && found.1;
     }
@@ -63,15 +62,18 @@ fn stops_of(alloc: Global, start: &[u8], case: &Case) -> Result<(bool, u64), Mem
     Ok((false, 100))
 }
 
-#[test]
-fn each_stop_keeps_what_was_told(rt: HostRuntime) -> Result<(), Fail> {
-    for (start, case, calls) in &ENDS {
-        assert_eq!(rt;
-            stops_of(rt.alloc(), start, case)?,
-            (true, *calls),
-            "{}",
-            case.0
-        );
+/// Puts with how many calls a command ends, or after how many of them a stop leaves something else than it may.
+fn put_case(out: &mut String, alloc: Global, start: &[u8], case: &Case) -> Result<(), Memory> {
+    let (right, calls) = stops_of(alloc, start, case)?;
+    let word = if right { "" } else { "wrong after " };
+    writeln!(out, "{} {word}{calls}", case.0)?;
+    Ok(())
+}
+
+/// Puts this of each command that writes.
+pub fn put(out: &mut String, alloc: Global) -> Result<(), Memory> {
+    for (start, case) in &STARTS {
+        put_case(out, alloc, start, case)?;
     }
     Ok(())
 }

@@ -3,6 +3,7 @@
 
 ghost use Rattle.std.specs.Prelude.{◌≡◌, ◌<◌};
 
+use crate::lines::put_numbers;
 use crate::store::scenario::{Call, PROGRAM, SCHEMA, adding, answers, rejected};
 use pgs_base::{Limits, Memory, Steps};
 use pgs_graph::{GraphRead, Txn};
@@ -10,7 +11,6 @@ use pgs_store::{Guard, GuardFault, GuardRefusal};
 use std::alloc::Global;
 use std::marker::Brand;
 use std::sync::ledger::{Blank, Ledger};
-use std::test::Fail;
 use tests_fixtures::empty_world;
 
 const TIGHT: Limits = Limits {
@@ -42,30 +42,17 @@ const SCHEMAS: &[Call] = &[
 
 const ADDING: &[Call] = &[Call::Add(&[1, 2]), Call::Add(&[1]), Call::Add(&[2])];
 
-/// What is answered to these under tight limits, and then the commits and how many elements the graph has.
-const TIGHT_ANSWERS: &[u64] = &[22_002, 1, 24_002, 1, 1];
-
-const SCHEMAS_ANSWERS: &[u64] = &[0, 98_000, 0, 1, 11_000, 25_001, 0, 2, 0, 2, 2, 2];
-
-/// Limits, calls on a store, and what it answers.
-type Row = (Limits, &'static [Call], &'static [u64]);
+/// Limits and calls on a store.
+type Row = (&'static str, Limits, &'static [Call]);
 
 const ROWS: [Row; 2] = [
-    (TIGHT, ADDING, TIGHT_ANSWERS),
-    (PROGRAM, SCHEMAS, SCHEMAS_ANSWERS),
+    ("a store under tight limits", TIGHT, ADDING),
+    ("a store that gets schemas", PROGRAM, SCHEMAS),
 ];
 
 fn answers_to(alloc: Global, limits: Limits, calls: &[Call]) -> Result<Vec<u64>, Memory> {
     let mut world = empty_world(alloc, 512)?;
     answers(alloc, limits, &mut world, calls)
-}
-
-#[test]
-fn an_open_store_keeps_its_limits_and_its_schema(rt: HostRuntime) -> Result<(), Fail> {
-    for (limits, calls, wanted) in &ROWS {
-        assert_eq!(rt; answers_to(rt.alloc(), *limits, calls)?.as_slice(), *wanted);
-    }
-    Ok(())
 }
 
 /// What a guard answers to a transaction, as a store would.
@@ -87,12 +74,11 @@ fn guarded_by<L: Ledger>(alloc: Global, guard: &mut Guard, blank: Blank) -> Resu
 {
     let mut steps: Steps<L> = Steps::begin(blank);
     let mut answers = Vec::new(alloc);
-    for ids in ADDED {
+    for ids in &ADDED {
         let txn = adding(alloc, ids)?;
         answers.push(guarded(guard, &txn, &mut steps))?;
     }
-    answers.push(guard.commits())?;
-    answers.push(guard.graph().count())?;
+    answers.extend_from_slice(&[guard.commits(), guard.graph().count()])?;
     Ok(answers)
 }
 
@@ -105,8 +91,19 @@ fn guard_answers(alloc: Global) -> Result<Vec<u64>, Memory> {
     }
 }
 
-#[test]
-fn a_guard_keeps_its_limits(rt: HostRuntime) -> Result<(), Fail> {
-    assert_eq!(rt; guard_answers(rt.alloc())?.as_slice(), TIGHT_ANSWERS);
-    Ok(())
+/// Puts the answers of the guard.
+fn put_guard(out: &mut String, alloc: Global) -> Result<(), Memory> {
+    let answers = guard_answers(alloc)?;
+    out.push_str("a guard under tight limits:")?;
+    put_numbers(out, answers.as_slice())
+}
+
+/// Puts the answers of the stores and of the guard.
+pub fn put(out: &mut String, alloc: Global) -> Result<(), Memory> {
+    for (name, limits, calls) in &ROWS {
+        let answers = answers_to(alloc, *limits, calls)?;
+        write!(out, "{name}:")?;
+        put_numbers(out, answers.as_slice())?;
+    }
+    put_guard(out, alloc)
 }

@@ -165,8 +165,7 @@ fn answers_of<W: World, L: Ledger>(
         let answer = answered(alloc, store, world, call, &mut steps)?;
         answers.push(answer)?;
     }
-    answers.push(store.commits())?;
-    answers.push(store.graph().count())?;
+    answers.extend_from_slice(&[store.commits(), store.graph().count()])?;
     Ok(answers)
 }
 
