@@ -2,6 +2,7 @@ pub mod Day
 pub mod DayForm
 pub mod Graph
 pub mod Kept
+pub mod LabelNames
 pub mod Name
 pub mod NameBytes
 pub mod Names
@@ -9,6 +10,7 @@ pub mod Options
 pub mod Order
 pub mod OrderLaws
 pub mod Pair
+pub mod Parts
 pub mod Places
 pub mod Properties
 pub mod Seed

@@ -1,40 +1,56 @@
-ghost use Rattle.std.specs.Prelude.{◌≡◌, ◌<◌, ◌↔◌, [], length, not, slice_get, IfOk, OnErr, OnOk, OnSome, IsTrue, nat_eq, false, true};
+ghost use Rattle.std.specs.Prelude.{◌≡◌, ◌<◌, ◌↔◌, [], ◌∷◌, length, not, slice_get, IfOk, OnErr, OnOk, OnSome, IsTrue, nat_eq, false, true};
 ghost use Rattle.std.specs.Option.{option_copied};
 ghost use Rattle.std.specs.Ordering.{nat_cmp};
 ghost use Rattle.std.specs.Cmp.{partial_equiv_from_equiv};
 ghost use Rattle.std.specs.Cmp.Lexicographic.{pointwise, slice_cmp, lists_equiv, nat_list_eq_equiv};
 ghost use Rattle.std.specs.List.Sorted.{IsStrictlySortedBy};
 ghost use Rattle.std.specs.List.{list_all};
+ghost use Rattle.pgs_base.specs.LabelNames.{names_of};
 ghost use Rattle.pgs_base.specs.Name.{is_name};
 ghost use Rattle.pgs_base.specs.Names.{are_names, has_name, put_name, take_name};
 
 use crate::{Copyable, Memory, Name, Ordered};
 use std::alloc::Global;
 use std::marker::Model;
+use std::slice;
+
+const _: () = prove!(size_of::<Labels>() == 32);
 
 /// The labels of an element: a set of names. Contracts see them as a list that ascends strictly.
+///
+/// A set of one label takes no memory beside the name's own, unless it had more before.
 pub struct Labels {
-    names: Ordered<Name>,
+    alloc: Global,
+    names: LabelNames,
+}
+
+// Most elements have one label, and rows are copied often, so that one name lies in the set itself. None is an
+// empty `Many`. A list of which names were taken out stays one, whatever is left.
+#[derive(Drop)]
+pub(crate) enum LabelNames {
+    One(Name),
+    Many(Ordered<Name>),
 }
 
 impl Model for Labels {
     ghost use Rattle.std.specs.Prelude.{◌≡◌, List, ℕ, true};
     ghost use Rattle.std.specs.Coded.{coded_list, coded_ℕ};
+    ghost use Rattle.pgs_base.specs.LabelNames.{names_of};
     ghost use Rattle.pgs_base.specs.Names.{are_names};
 
     ghost Value = { List (List ℕ) };
 
     ghost coded = { coded_list (coded_list coded_ℕ) };
 
-    ghost view = { λ labels. labels.names };
+    ghost view = { λ labels. names_of labels.names };
 
-    ghost invariant = { λ labels. are_names labels.names ≡ true };
+    ghost invariant = { λ labels. are_names (names_of labels.names) ≡ true };
 }
 
 // Dropped here, so that crates above need not prove what it holds.
 impl Drop for Labels {
     fn drop(self) {
-        let Labels { names: _ } = self;
+        let Labels { alloc: _, names: _ } = self;
     }
 }
 
@@ -47,24 +63,110 @@ fn name_facts(names: &[Name])
     }
 }
 
+impl LabelNames {
+    // The names of a vector in which they ascend strictly. The block of one name is given back.
+    fn from_vec(mut names: Vec<Name>) -> LabelNames
+        requires { IsStrictlySortedBy (slice_cmp nat_cmp) names.items }
+        ensures { names_of result ≡ names.items }
+    {
+        if names.len() == 1 {
+            LabelNames::One(names.remove(0))
+        } else {
+            LabelNames::Many(Ordered::from_vec(names))
+        }
+    }
+
+    fn as_slice(&self) -> &[Name]
+        ensures { result.now ≡ names_of self.now }
+    {
+        match self {
+            LabelNames::One(name) => slice::from_ref(name),
+            LabelNames::Many(names) => names.as_slice(),
+        }
+    }
+
+    fn contains(&self, name: &Name) -> bool
+        ensures { result ≡ has_name name.now (names_of self.now) }
+    {
+        match self {
+            LabelNames::One(only) => name.cmp(only).is_eq(),
+            LabelNames::Many(names) => names.contains(name),
+        }
+    }
+
+    fn insert(&mut self, alloc: Global, name: Name) -> Result<bool, Memory>
+        ensures ok { OnOk result (names_of self.new ≡ put_name (names_of self.old) name) }
+        ensures answer { IfOk result (λ added. added ≡ not (has_name name (names_of self.old))) }
+        ensures err { OnErr result (names_of self.new ≡ names_of self.old) }
+        ensures only_new { OnErr result (has_name name (names_of self.old) ≡ false) }
+    {
+        match self {
+            LabelNames::One(only) => {
+                if name.cmp(only).is_eq() {
+                    return Ok(false);
+                }
+                let names = both(alloc, only, name)?;
+                *self = LabelNames::Many(names);
+                Ok(true)
+            }
+            LabelNames::Many(names) => {
+                if names.is_empty() {
+                    *self = LabelNames::One(name);
+                    return Ok(true);
+                }
+                names.insert(name)
+            }
+        }
+    }
+
+    fn remove(&mut self, alloc: Global, name: &Name) -> bool
+        ensures names { names_of self.new ≡ take_name (names_of self.old) name.now }
+        ensures answer { result ≡ has_name name.now (names_of self.old) }
+    {
+        match self {
+            LabelNames::One(only) => {
+                if name.cmp(only).is_ne() {
+                    return false;
+                }
+                *self = LabelNames::Many(Ordered::new(alloc));
+                true
+            }
+            LabelNames::Many(names) => names.remove(name),
+        }
+    }
+}
+
+// A name and another, in order. `Memory` where none was left.
+fn both(alloc: Global, only: &Name, other: Name) -> Result<Ordered<Name>, Memory>
+    ensures { IfOk result (λ names. names ≡ put_name (only.now ∷ []) other) }
+{
+    let mut names = Ordered::new(alloc);
+    let only = only.share()?;
+    names.insert(only)?;
+    names.insert(other)?;
+    Ok(names)
+}
+
 impl Labels {
     /// No labels. It takes no memory.
     pub fn new(alloc: Global) -> Labels
         ensures { result ≡ [] }
     {
         Labels {
-            names: Ordered::new(alloc),
+            alloc,
+            names: LabelNames::Many(Ordered::new(alloc)),
         }
     }
 
-    /// The labels of a vector in which the names ascend strictly.
+    /// The labels of a vector in which the names ascend strictly. The memory of a vector of one name is given back.
     pub fn from_vec(names: Vec<Name>) -> Labels
         requires { IsStrictlySortedBy (slice_cmp nat_cmp) names.items }
         ensures { result ≡ names.items }
     {
         name_facts(names.as_slice());
         Labels {
-            names: Ordered::from_vec(names),
+            alloc: *names.allocator(),
+            names: LabelNames::from_vec(names),
         }
     }
 
@@ -73,14 +175,14 @@ impl Labels {
         ensures value { result ≡ length self.now }
         ensures ascending { IsStrictlySortedBy (slice_cmp nat_cmp) self.now }
     {
-        self.names.len()
+        self.as_slice().len()
     }
 
     /// Whether there is no label.
     pub fn is_empty(&self) -> bool
         ensures { IsTrue result ↔ (self.now ≡ []) }
     {
-        self.names.is_empty()
+        self.as_slice().is_empty()
     }
 
     /// The label at a place, from 0. `None` exactly past the last.
@@ -88,7 +190,7 @@ impl Labels {
         ensures value { option_copied result ≡ slice_get self.now place }
         ensures within { OnSome result (place < length self.now) }
     {
-        self.names.at(place)
+        self.as_slice().get(place)
     }
 
     /// All labels, in order.
@@ -108,7 +210,7 @@ impl Labels {
     }
 
     /// Puts a label in. Answers whether it was new. After `Memory`, which comes only for a new label,
-    /// the labels are as they were.
+    /// the labels are as they were. The first label takes no memory.
     pub fn insert(&mut self, name: Name) -> Result<bool, Memory>
         ensures ok { OnOk result (self.new ≡ put_name self.old name) }
         ensures answer { IfOk result (λ added. added ≡ not (has_name name self.old)) }
@@ -116,7 +218,7 @@ impl Labels {
         ensures only_new { OnErr result (has_name name self.old ≡ false) }
     {
         let _bytes = name.bytes();
-        let added = self.names.insert(name)?;
+        let added = self.names.insert(self.alloc, name)?;
         Ok(added)
     }
 
@@ -125,14 +227,29 @@ impl Labels {
         ensures names { self.new ≡ take_name self.old name.now }
         ensures answer { result ≡ has_name name.now self.old }
     {
-        self.names.remove(name)
+        self.names.remove(self.alloc, name)
     }
 }
 
 impl Copyable for Labels {
     fn copy(&self, alloc: Global) -> Result<Labels, Memory> {
         let names = self.names.copy(alloc)?;
-        Ok(Labels { names })
+        Ok(Labels { alloc, names })
+    }
+}
+
+impl Copyable for LabelNames {
+    fn copy(&self, alloc: Global) -> Result<LabelNames, Memory> {
+        match self {
+            LabelNames::One(name) => {
+                let name = name.copy(alloc)?;
+                Ok(LabelNames::One(name))
+            }
+            LabelNames::Many(names) => {
+                let names = names.copy(alloc)?;
+                Ok(LabelNames::Many(names))
+            }
+        }
     }
 }
 

@@ -1,4 +1,4 @@
-ghost use Rattle.std.specs.Prelude.{◌≡◌, ◌↔◌, IsTrue, Some, refl};
+ghost use Rattle.std.specs.Prelude.{◌≡◌, ◌↔◌, [], ◌∷◌, IsTrue, Some, refl};
 ghost use Rattle.std.specs.Ordering.{eq_by_cmp};
 ghost use Rattle.std.specs.Cmp.{partial_equiv_from_equiv, eq_by_cmp_equiv, po};
 ghost use Rattle.pgs_base.specs.Order.{tuple_cmp};
@@ -8,20 +8,31 @@ use crate::{Copyable, List, Memory, Part};
 use std::alloc::Global;
 use std::cmp::Ordering;
 use std::marker::Model;
+use std::slice;
 
 /// A tuple: its parts in order. Tuples go part by part, and a proper prefix comes first.
+///
+/// A tuple of one part takes no memory beside the part's own.
 #[derive(Debug)]
 pub struct Tuple {
-    parts: List<Part>,
+    parts: Parts,
+}
+
+// Nearly every tuple has one part, so that one part lies in the tuple itself.
+#[derive(Debug, Drop)]
+pub(crate) enum Parts {
+    One(Part),
+    Many(List<Part>),
 }
 
 impl Model for Tuple {
     ghost use Rattle.std.specs.Prelude.{List as Items};
     ghost use Rattle.pgs_base.specs.declared.part.Part.{Part};
+    ghost use Rattle.pgs_base.specs.Parts.{parts_of};
 
     ghost Value = { Items Part };
 
-    ghost view = { λ tuple. tuple.parts };
+    ghost view = { λ tuple. parts_of tuple.parts };
 }
 
 // Dropped here, so that crates above need not prove what it holds.
@@ -36,14 +47,35 @@ impl Tuple {
     pub fn new(parts: List<Part>) -> Tuple
         ensures { result ≡ parts }
     {
+        if parts.len() != 1 {
+            let parts = Parts::Many(parts);
+            return Tuple { parts };
+        }
+        let mut parts = parts.into_vec();
+        match parts.pop() {
+            Some(part) => Tuple::one(part),
+            None => Tuple {
+                parts: Parts::Many(List::from_vec(parts)),
+            },
+        }
+    }
+
+    /// The tuple of one part. It takes no memory.
+    pub fn one(part: Part) -> Tuple
+        ensures { result ≡ part ∷ [] }
+    {
+        let parts = Parts::One(part);
         Tuple { parts }
     }
 
     /// The parts of the tuple, in order.
-    pub fn parts(&self) -> &List<Part>
+    pub fn parts(&self) -> &[Part]
         ensures { result.now ≡ self.now }
     {
-        &self.parts
+        match &self.parts {
+            Parts::One(part) => slice::from_ref(part),
+            Parts::Many(parts) => parts.as_slice(),
+        }
     }
 }
 
@@ -51,6 +83,21 @@ impl Copyable for Tuple {
     fn copy(&self, alloc: Global) -> Result<Tuple, Memory> {
         let parts = self.parts.copy(alloc)?;
         Ok(Tuple { parts })
+    }
+}
+
+impl Copyable for Parts {
+    fn copy(&self, alloc: Global) -> Result<Parts, Memory> {
+        match self {
+            Parts::One(part) => {
+                let part = part.copy(alloc)?;
+                Ok(Parts::One(part))
+            }
+            Parts::Many(parts) => {
+                let parts = parts.copy(alloc)?;
+                Ok(Parts::Many(parts))
+            }
+        }
     }
 }
 
@@ -92,6 +139,6 @@ impl Ord for Tuple {
     ghost matches_eq = { λ a b. refl };
 
     fn cmp(&self, other: &Tuple) -> Ordering {
-        self.parts.as_slice().cmp(other.parts.as_slice())
+        self.parts().cmp(other.parts())
     }
 }

@@ -48,7 +48,7 @@ impl TextBuffer {
         ensures { OnOk result (self.new ≡ self.old ++ tuple_text tuple.now) }
     {
         self.push(b"(")?;
-        self.push_parts(tuple.parts().as_slice())?;
+        self.push_parts(tuple.parts())?;
         self.push(b")")
     }
 }

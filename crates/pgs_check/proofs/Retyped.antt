@@ -20,9 +20,9 @@ use Rattle.pgs_graph.specs.declared.scan.End.TheVariants.{Source, Target}
 use Rattle.pgs_graph.specs.Changed.{changed, is_sound, after_changes}
 use Rattle.pgs_graph.specs.Reads.{out_edges_of, in_edges_of}
 use Rattle.pgs_graph.proofs.Deltas.{exact_node, edge_cmp_total, exact_edge, node_after, edge_after}
-use Rattle.pgs_kinds.specs.Kinds.{looks_same}
-use Rattle.pgs_kinds.proofs.Compared.{one_plain, typed_node_same, typed_by_plain}
-use Rattle.pgs_kinds.proofs.Plain.{plain}
+use Rattle.pgs_conform.specs.Kinds.{looks_same}
+use Rattle.pgs_conform.proofs.Compared.{one_plain, typed_node_same, typed_by_plain}
+use Rattle.pgs_conform.proofs.Plain.{plain}
 use Rattle.pgs_syntax.specs.declared.resolved.Resolved.{Resolved}
 use Rattle.pgs_syntax.specs.Typed.{is_typed_triple}
 use Rattle.pgs_syntax.proofs.Members.{contains_none, contains_cases, contains_later, kept_given}

@@ -10,7 +10,7 @@ use Rattle.pgs_base.specs.declared.row.EdgeRow.{EdgeRow}
 use Rattle.pgs_base.specs.Graph.{Graph, node_at, edge_at, edge_cmp}
 use Rattle.pgs_graph.specs.declared.delta.Delta.{Delta}
 use Rattle.pgs_graph.specs.Reads.{out_edges_of, in_edges_of, degree_of}
-use Rattle.pgs_kinds.specs.Kinds.{looks_same}
+use Rattle.pgs_conform.specs.Kinds.{looks_same}
 use Rattle.pgs_syntax.specs.declared.resolved.Resolved.{Resolved}
 use Rattle.pgs_violation.specs.declared.violation.Violation.{Violation}
 use Rattle.pgs_violation.specs.Violations.{untyped_node, untyped_edge, where_asked}

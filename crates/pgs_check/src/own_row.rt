@@ -46,6 +46,11 @@ fn own_tuple(
 ) -> Result<Option<Tuple>, Memory>
     ensures { IfOk result (λ tuple. tuple ≡ own_tuple elem props.now exprs.now) }
 {
+    // Most keys have one expression, whose part needs no list.
+    if let [expr] = exprs {
+        let part = own_part(alloc, elem, props, expr)?;
+        return Ok(part.map(Tuple::one));
+    }
     let mut parts = Vec::with_capacity(alloc, exprs.len())?;
     for expr in exprs {
         match own_part(alloc, elem, props, expr)? {

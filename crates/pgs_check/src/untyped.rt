@@ -10,9 +10,8 @@ ghost use Rattle.pgs_violation.specs.declared.violation.Violation.TheVariants.{U
 ghost use Rattle.pgs_check.specs.Untyped.{HaveDegreesWithin, IsSettled, IsTyped, looks_as_before, retyped_nodes, untyped_violations, untyped_change, is_untyped_edge, is_found_before, least_edge, edges_at, touched_edges};
 
 use pgs_base::{EdgeId, EdgeRow, NodeId, NodeRow, Steps};
-use pgs_conform::{Compiled, Pair, node_typed};
+use pgs_conform::{Compiled, Pair, looks_same, node_typed};
 use pgs_graph::{Delta, GraphRead};
-use pgs_kinds::looks_same;
 use pgs_match::{edge_along, is_edge_typed};
 use pgs_overlay::Overlay;
 use pgs_tables::Tables;

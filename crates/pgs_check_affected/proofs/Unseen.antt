@@ -17,8 +17,8 @@ use Rattle.pgs_base.specs.Graph.{Graph, node_at, edge_at, is_end}
 use Rattle.pgs_base.specs.Order.{value_cmp}
 use Rattle.pgs_base.specs.OrderLaws.{exact_value}
 use Rattle.pgs_base.specs.Pair.{value_at, pair_of}
-use Rattle.pgs_kinds.proofs.Compared.{one_plain}
-use Rattle.pgs_kinds.proofs.Plain.{plain, edge_plain}
+use Rattle.pgs_conform.proofs.Compared.{one_plain}
+use Rattle.pgs_conform.proofs.Plain.{plain, edge_plain}
 use Rattle.pgs_syntax.specs.declared.key.Key.{Key}
 use Rattle.pgs_syntax.specs.declared.pattern.Atom.{Atom}
 use Rattle.pgs_syntax.specs.declared.pattern.Atom.TheVariants.{Ends, HasLabel, FitsNode, FitsEdge, Equals}

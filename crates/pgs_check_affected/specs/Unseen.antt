@@ -11,7 +11,7 @@ use Rattle.pgs_base.specs.declared.row.EdgeRow.{EdgeRow}
 use Rattle.pgs_base.specs.declared.value.Value.{Value}
 use Rattle.pgs_base.specs.Graph.{Graph, edge_at}
 use Rattle.pgs_base.specs.Pair.{value_at}
-use Rattle.pgs_kinds.specs.Kinds.{looks_same}
+use Rattle.pgs_conform.specs.Kinds.{looks_same}
 use Rattle.pgs_match.specs.Near.{is_at_element}
 use Rattle.pgs_match.specs.Tests.{own_passes}
 use Rattle.pgs_syntax.specs.declared.key.Key.{Key}

@@ -8,8 +8,7 @@ ghost use Rattle.pgs_check_affected.specs.Unseen.{row_passes, is_one_outcome, pa
 
 use crate::Known;
 use crate::gathering::Sought;
-use pgs_conform::{Compiled, Pair};
-use pgs_kinds::looks_same;
+use pgs_conform::{Compiled, Pair, looks_same};
 use pgs_match::{PlannedKey, Side};
 use pgs_syntax::{Atom, Expr, Pattern};
 

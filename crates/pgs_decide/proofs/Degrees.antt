@@ -3,7 +3,6 @@ use Rattle.std.proofs.Common.{◌≡◌, ℕ, ◌≤◌, Bool, true, false, ◌&
 use Rattle.std.specs.Prelude.{Contains, nat_le}
 use Rattle.std.specs.Cmp.{eq_by_cmp_equiv}
 use Rattle.std.specs.Option.{option_map_or}
-use Rattle.std.specs.BTreeMap.{is_at}
 use Rattle.std.specs.List.{list_any}
 use Rattle.std.specs.Map.{keys_of}
 use Rattle.std.proofs.lemmas.Bool.{and_parts, and_from, or_cases, or_left, or_right}
@@ -80,7 +79,7 @@ module _ (g h : Graph) (near most : ℕ) where
   pub sparse_fewer : (elems all : List Elem) → ((elem : Elem) → is_one_of elems elem ≡ true → is_one_of all elem ≡ true) → AreSparse g h near all most → AreSparse g h near elems most
   sparse_fewer elems all within sparse = λ from own. sparse from (within from own)
 
--- ---- the nodes that a delta touches
+-- ---- the nodes at the edges that a delta changes
 
 one_of_any : {X : Type 0} (test : X → Bool) (xs : List X) → list_any test xs ≡ true → (x : X) × Contains xs x × (test x ≡ true)
 one_of_any test [] h = absurd (true≢false (sym h))
@@ -97,11 +96,6 @@ module _ (g : Graph) (delta : Delta) (graph : is_graph g ≡ true) (sound : is_s
     (sparse : AreSparse g (changed g delta) near (touched g (elems_of delta)) most) where
   own_low : (elem : Elem) → is_one_of (elems_of delta) elem ≡ true → (id : NodeId) → (is_at_element g elem id || is_at_element (changed g delta) elem id) ≡ true → degree_of g id ≤ most
   own_low elem own = at_low g (changed g delta) near most (touched g (elems_of delta)) sparse elem (own_touched g (changed g delta) (elems_of delta) elem own)
-
-  node_own : (id : NodeId) → list_any (is_at (node_cmp id)) (keys_of delta.nodes) ≡ true → is_one_of (elems_of delta) (Node id) ≡ true
-  node_own id h =
-      list_any-append (same_elem (Node id)) (map (λ id. Node id) (keys_of delta.nodes)) (map (λ id. Edge id) (keys_of delta.edges))
-      ∙ or_left _ _ (any_map (same_elem (Node id)) (λ id. Node id) (keys_of delta.nodes) ∙ h)
 
   edge_own : (change : EdgeId × Option EdgeRow) → Contains delta.edges change → is_one_of (elems_of delta) (Edge change.0) ≡ true
   edge_own change there =
@@ -125,10 +119,8 @@ module _ (g : Graph) (delta : Delta) (graph : is_graph g ≡ true) (sound : is_s
 
   pub delta_low : HasDegreesWithin g delta most
   delta_low id h =
-      ⊎_elim (λ node. own_low (Node id) (node_own id node) id (or_left _ _ (eq-eqb id.0 id.0 refl)))
-      (λ edge. let it = one_of_any (ends_here g id) delta.edges edge in
+      let it = one_of_any (ends_here g id) delta.edges h in
       own_low (Edge it.0.0) (edge_own it.0 it.1) id
       (⊎_elim (λ old. or_left _ _ (end_at id (edge_at g it.0.0) old))
       (λ new. or_right (is_at_element g (Edge it.0.0) id) _ (ap (λ o. option_map_or (is_end id) o false) (change_stands it.0 it.1) ∙ end_at id it.0.1 new))
-      (or_cases (is_end_of id (edge_at g it.0.0)) _ it.2)))
-      (or_cases (list_any (is_at (node_cmp id)) (keys_of delta.nodes)) _ h)
+      (or_cases (is_end_of id (edge_at g it.0.0)) _ it.2))

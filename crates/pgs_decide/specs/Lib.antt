@@ -1,2 +1,3 @@
+pub mod Changing
 pub mod Refused
 pub mod Touched

@@ -35,7 +35,7 @@ pub fn hash_of(seed: Seed, tuple: &Tuple) -> u64
     ensures { result ≡ hash_of seed tuple.now }
 {
     let mut hasher = seed.build_hasher();
-    let parts = tuple.parts().as_slice();
+    let parts = tuple.parts();
     for part in parts {
         feed(part, &mut hasher);
     }

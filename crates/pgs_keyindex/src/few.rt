@@ -1,18 +1,26 @@
-ghost use Rattle.std.specs.Prelude.{◌≡◌, ◌↔◌, [], ◌∷◌, IsTrue};
+ghost use Rattle.std.specs.Prelude.{◌≡◌, ◌↔◌, [], ◌∷◌, IfOk, IsTrue};
+ghost use Rattle.pgs_keyindex.specs.Few.{elems_lent};
 
-use pgs_base::{Elem, List};
+use pgs_base::{Boxed, EdgeId, Elem, List, Memory, NodeId};
+use std::alloc::Global;
 use std::marker::Model;
 use std::slice;
 
-/// Elements in order. One of them, as nearly everywhere, takes no memory.
+/// Elements in order. None or one of them, as nearly everywhere, takes no memory.
 pub(crate) struct Few {
     kept: Kept,
 }
 
+// No more than an `Elem` takes: there is one for each value of an exclusive key, and hardly any has several elements.
+const _: () = prove!(size_of::<Few>() == 16);
+
+// Several stand in a box, and one by the number of its kind, so that each kind is one word beside the tag.
 #[derive(Drop)]
 pub(crate) enum Kept {
-    One(Elem),
-    Many(List<Elem>),
+    Nothing,
+    Node(NodeId),
+    Edge(EdgeId),
+    Many(Boxed<List<Elem>>),
 }
 
 impl Model for Few {
@@ -36,17 +44,28 @@ impl Few {
     pub(crate) fn one(elem: Elem) -> Few
         ensures { result ≡ elem ∷ [] }
     {
-        Few {
-            kept: Kept::One(elem),
-        }
+        let kept = match elem {
+            Elem::Node(id) => Kept::Node(id),
+            Elem::Edge(id) => Kept::Edge(id),
+        };
+        Few { kept }
     }
 
-    /// The elements of a list.
-    pub(crate) fn many(elems: List<Elem>) -> Few
-        ensures { result ≡ elems }
+    /// The elements of a list. `Memory` where none was left for them; fewer than two ask for none.
+    pub(crate) fn many(alloc: Global, elems: List<Elem>) -> Result<Few, Memory>
+        ensures { IfOk result (λ few. few ≡ elems) }
     {
-        Few {
-            kept: Kept::Many(elems),
+        match elems.as_slice() {
+            [] => Ok(Few {
+                kept: Kept::Nothing,
+            }),
+            [elem] => Ok(Few::one(*elem)),
+            _ => {
+                let elems = Boxed::new(alloc, elems)?;
+                Ok(Few {
+                    kept: Kept::Many(elems),
+                })
+            }
         }
     }
 
@@ -54,16 +73,37 @@ impl Few {
     pub(crate) fn is_empty(&self) -> bool
         ensures { IsTrue result ↔ (self.now ≡ []) }
     {
-        self.as_slice().is_empty()
+        self.lend().as_slice().is_empty()
     }
 
-    /// The elements, in order.
-    pub(crate) fn as_slice(&self) -> &[Elem]
-        ensures { result.now ≡ self.now }
+    /// The elements, lent.
+    pub(crate) fn lend(&self) -> Lent<'_>
+        ensures { elems_lent result ≡ self.now }
     {
         match &self.kept {
-            Kept::One(elem) => slice::from_ref(elem),
-            Kept::Many(elems) => elems.as_slice(),
+            Kept::Nothing => Lent::Many(&[]),
+            Kept::Node(id) => Lent::One(Elem::Node(*id)),
+            Kept::Edge(id) => Lent::One(Elem::Edge(*id)),
+            Kept::Many(elems) => Lent::Many(elems.get().as_slice()),
+        }
+    }
+}
+
+/// Elements in order, lent. One of them is a copy, since it isn't kept as an `Elem`.
+#[derive(Clone, Copy)]
+pub(crate) enum Lent<'a> {
+    One(Elem),
+    Many(&'a [Elem]),
+}
+
+impl<'a> Lent<'a> {
+    /// The elements, in order.
+    pub(crate) fn as_slice(&self) -> &[Elem]
+        ensures { result.now ≡ elems_lent self.now }
+    {
+        match self {
+            Lent::One(elem) => slice::from_ref(elem),
+            Lent::Many(elems) => elems,
         }
     }
 }

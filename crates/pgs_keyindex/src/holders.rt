@@ -4,22 +4,23 @@ ghost use Rattle.std.specs.Prelude.{◌≡◌, true, cond, [], ◌∷◌, ◌++�
 ghost use Rattle.std.specs.BTreeMap.{is_at};
 ghost use Rattle.pgs_tables.specs.Slots.{has_slot};
 ghost use Rattle.pgs_keyindex.specs.declared.digest.Digest.{Digest};
+ghost use Rattle.pgs_keyindex.specs.Few.{elems_lent};
 ghost use Rattle.pgs_keyindex.specs.Members.{digest_cmp};
 ghost use Rattle.pgs_keyindex.specs.Table.{has_elem, listed_at};
 
 use crate::digest::Digest;
-use crate::few::Few;
+use crate::few::{Few, Lent};
 use pgs_base::{Elem, List, Memory};
 use pgs_tables::Numbered;
 use std::alloc::Global;
 
 /// The elements that are listed at a digest.
-pub(crate) fn elements_at(holders: &Numbered<Digest, Few>, digest: Digest) -> &[Elem]
-    ensures { result.now ≡ listed_at holders.now.rows digest }
+pub(crate) fn elements_at(holders: &Numbered<Digest, Few>, digest: Digest) -> Lent<'_>
+    ensures { elems_lent result ≡ listed_at holders.now.rows digest }
 {
     match holders.get(digest) {
-        Some(few) => few.as_slice(),
-        None => &[],
+        Some(few) => few.lend(),
+        None => Lent::Many(&[]),
     }
 }
 
@@ -56,7 +57,7 @@ pub(crate) fn with_elem(alloc: Global, elems: &[Elem], elem: Elem) -> Result<Few
     }
     let mut more = List::from_slice(alloc, elems)?;
     match more.push(elem) {
-        Ok(()) => Ok(Few::many(more)),
+        Ok(()) => Few::many(alloc, more),
         Err((_, memory)) => Err(memory),
     }
 }

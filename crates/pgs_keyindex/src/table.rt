@@ -1,6 +1,6 @@
 //! The rows of an index, and the elements that may hold a value.
 
-ghost use Rattle.std.specs.Prelude.{◌≡◌, true, false, [], filter, IfOk, OnOk, MatchOption};
+ghost use Rattle.std.specs.Prelude.{◌≡◌, true, false, [], filter, IfOk, IfSome, OnOk, MatchOption};
 ghost use Rattle.std.specs.Option.{option_copied};
 ghost use Rattle.std.specs.List.{list_all};
 ghost use Rattle.std.specs.List.Sorted.{IsStrictlySortedBy};
@@ -122,7 +122,8 @@ impl KeyTable {
             (λ elem. has_value self.now.rows.rows key elem tuple.now ≡ true) }
     {
         let digest = Digest::of(self.seed, key, tuple);
-        let elems = elements_at(&self.holders, digest);
+        let lent = elements_at(&self.holders, digest);
+        let elems = lent.as_slice();
         for elem in elems {
             if self.has_value(key, *elem, tuple) {
                 return Some(*elem);
@@ -157,39 +158,33 @@ impl KeyTable {
         }
     }
 
-    // The elements listed at a digest that have a value of it. `Memory` where none was left.
-    fn standing(&self, digest: Digest) -> Result<Few, Memory>
-        ensures { IfOk result (λ few. few ≡ filter (stands self.now digest) (listed_at self.now.holders.rows digest)) }
+    // The elements listed at a digest that have a value of it, unless all have one. `Memory` where none was left.
+    fn standing(&self, digest: Digest) -> Result<Option<Few>, Memory>
+        ensures { IfOk result (λ found. IfSome found (λ few. few ≡ filter (stands self.now digest) (listed_at self.now.holders.rows digest))) }
     {
-        let elems = elements_at(&self.holders, digest);
+        let lent = elements_at(&self.holders, digest);
+        let elems = lent.as_slice();
         let mut standing = Vec::new(self.alloc);
         for elem in elems {
             if self.stands(digest, *elem) {
                 standing.push(*elem)?;
             }
         }
-        Ok(Few::many(List::from_vec(standing)))
-    }
-
-    // Whether each element listed at a digest has a value of it.
-    fn all_stand(&self, digest: Digest) -> bool {
-        let elems = elements_at(&self.holders, digest);
-        for elem in elems {
-            if !self.stands(digest, *elem) {
-                return false;
-            }
+        if standing.len() == elems.len() {
+            return Ok(None);
         }
-        true
+        let few = Few::many(self.alloc, List::from_vec(standing))?;
+        Ok(Some(few))
     }
 
     // Leaves at a digest the elements that have a value of it.
     fn tidy(&mut self, digest: Digest) -> Result<(), Memory>
         ensures { SameRows self.old self.new }
     {
-        if self.all_stand(digest) {
+        let found = self.standing(digest)?;
+        let Some(standing) = found else {
             return Ok(());
-        }
-        let standing = self.standing(digest)?;
+        };
         self.holders.make_slot(digest)?;
         relist(&mut self.holders, digest, standing);
         Ok(())
@@ -236,7 +231,8 @@ impl KeyTable {
     {
         // The slot is made first, so that it is found again without hashing.
         self.holders.make_slot(digest)?;
-        let elems = elements_at(&self.holders, digest);
+        let lent = elements_at(&self.holders, digest);
+        let elems = lent.as_slice();
         if has_elem(elems, elem) {
             return Ok(());
         }

@@ -57,3 +57,4 @@ pub mod Behind
 pub mod Kept
 pub mod Apart
 pub mod ToOne
+pub mod Typed

@@ -1,6 +1,6 @@
 -- What a search along a way to one variable takes, over what its parts say.
-use Rattle.std.proofs.Common.{◌≡◌, ℕ, ◌+◌, ◌*◌, ◌<◌, ◌≤◌, Bool, true, false, ◌&&◌, ◌||◌, ◌==◌, not, cond, List, [], ◌∷◌, length, nat_lt, Option, Some, None, Result, Ok, Err, IfOk, OnOk, refl, sym, ◌∙◌, ap, subst, true≢false, arith}
-use Rattle.std.specs.Prelude.{option_and_then, map}
+use Rattle.std.proofs.Common.{◌≡◌, ℕ, ◌+◌, ◌*◌, ◌<◌, ◌≤◌, Bool, true, false, ◌&&◌, ◌==◌, not, List, [], ◌∷◌, length, nat_lt, Option, Some, None, Result, Ok, Err, IfOk, OnOk, refl, sym, ◌∙◌, ap, subst, true≢false, arith}
+use Rattle.std.specs.Prelude.{option_and_then}
 use Rattle.std.specs.Option.{IfSome, option_map_or}
 use Rattle.std.specs.List.{Contains, list_all, sum_by}
 use Rattle.std.proofs.Math.Nat.{mul-le-mul_right, mul_comm}
@@ -14,7 +14,7 @@ use Rattle.pgs_syntax.specs.declared.pattern.Atom.{Atom}
 use Rattle.pgs_syntax.specs.declared.pattern.Expr.{Expr}
 use Rattle.pgs_syntax.specs.declared.pattern.Pattern.{Pattern}
 use Rattle.pgs_syntax.specs.declared.resolved.Resolved.{Resolved}
-use Rattle.pgs_syntax.specs.Valid.{read_var, is_valid_pattern}
+use Rattle.pgs_syntax.specs.Valid.{is_valid_pattern}
 use Rattle.pgs_match.specs.declared.step.Step.{Step}
 use Rattle.pgs_match.specs.declared.step.Step.TheVariants.{Along, End}
 use Rattle.pgs_match.specs.declared.stand.Stand.{Stand}
@@ -29,7 +29,7 @@ use Rattle.pgs_match.specs.Frontier.{led_on, on_most, is_path, leads_to_one, una
 use Rattle.pgs_match.specs.Learned.{is_short, IsWayMemo, IsWayTaken}
 use Rattle.pgs_match.specs.Planned.{IsSplit, taken}
 use Rattle.pgs_match.specs.Plans.{bound_by, is_plan}
-use Rattle.pgs_match.specs.Routes.{on_way, off_way, way_most}
+use Rattle.pgs_match.specs.Routes.{on_way, way_most}
 use Rattle.pgs_match.specs.Search.{edges_along}
 use Rattle.pgs_match.specs.Spread.{stand_at, elem_degree}
 use Rattle.pgs_match.specs.Tests.{admitted_node, admitted_edge}

@@ -1,6 +1,6 @@
 //! The calls on a planned key.
 
-ghost use Rattle.std.specs.Prelude.{◌≡◌, ◌+◌, ◌*◌, ◌^◌, ◌<◌, ◌≤◌, ◌==◌, ◌||◌, ℕ, true, length, map, filter_map, IfOk, OnOk};
+ghost use Rattle.std.specs.Prelude.{◌≡◌, ◌+◌, ◌*◌, ◌^◌, ◌<◌, ◌≤◌, ◌==◌, ◌||◌, ℕ, true, length, map, filter, filter_map, IfOk, OnOk};
 ghost use Rattle.std.specs.List.{All, Contains, list_all, sum_by};
 ghost use Rattle.pgs_base.specs.declared.element.Elem.{Elem};
 ghost use Rattle.pgs_base.specs.Order.{ascends, elem_cmp};
@@ -192,7 +192,7 @@ pub fn spread<G: GraphRead, L: Ledger>(
 fn first_elem(tuple: &Tuple) -> Option<Elem>
     ensures { result ≡ first_elem tuple.now }
 {
-    match tuple.parts().as_slice().first() {
+    match tuple.parts().first() {
         Some(Part::Elem(elem)) => Some(*elem),
         _ => None,
     }
@@ -278,7 +278,28 @@ pub fn each_x<G: GraphRead, L: Ledger>(
         + 440 * sum_by (λ (stand : Stand). elem_degree (G.meaning graph.now) stand.elem + 2) pairs) }
 {
     let elements = each_element(alloc, graph, key, steps)?;
-    let elems = elements.as_slice();
+    scope_among(alloc, graph, compiled, key, elements.as_slice(), steps)
+}
+
+// Those of some elements that are in the scope, in their order. What is learned of one serves all.
+fn scope_among<G: GraphRead, L: Ledger>(
+    alloc: Global,
+    graph: &G,
+    compiled: &Compiled,
+    key: &PlannedKey,
+    elems: &[Elem],
+    steps: &mut Steps<L>,
+) -> Result<List<Elem>, Memory>
+    requires { is_valid_key_of compiled.now key.now ≡ true }
+    ensures among { IfOk result (λ scope. scope ≡ filter (is_in_scope compiled.now (G.meaning graph.now) key.now) elems.now) }
+    ensures no_step_back { steps.old ≤ steps.new }
+    ensures cost { (most : ℕ) → HasDegreesWithin (G.meaning graph.now) most →
+        steps.new ≤ steps.old + length elems.now * (16 * (most + 2) ^ (most_edges key.now + 1)) }
+    ensures once { has_no_cycle key.now.scope ≡ true → (pairs : List Stand) → ((elem : Elem) →
+        Contains elems.now elem → HasSearched compiled.now (G.meaning graph.now) key.now.scope elem pairs) →
+        OnOk result (steps.new ≤ steps.old + 440 * sum_by (λ (elem : Elem). elem_degree (G.meaning graph.now) elem + 2) elems.now
+        + 440 * sum_by (λ (stand : Stand). elem_degree (G.meaning graph.now) stand.elem + 2) pairs) }
+{
     let mut learned = Learned::new(alloc);
     let mut scope = Vec::new(alloc);
     for elem in elems {

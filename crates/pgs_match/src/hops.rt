@@ -22,13 +22,18 @@ use crate::completion::end_of;
 use crate::frontier::Frontier;
 use crate::notes::{Hop, Notes};
 use crate::ordered::nodes_in_order;
+use crate::plan::is_left;
 use crate::reads::edge_along;
 use pgs_base::{EdgeId, List, Memory, NodeId, Steps};
 use pgs_graph::GraphRead;
 use std::sync::ledger::Ledger;
 
+// Up to how many edges of a node are gone over again rather than noted.
+const FEW_EDGES: usize = 8;
+
 impl<'a, G: GraphRead> Frontier<'a, G> {
-    /// Whether a node is admitted at a variable on the way and can be given all that hangs there off the way. What is found is noted.
+    /// Whether a node is admitted at a variable on the way and can be given all that hangs there off the way. What is found is noted,
+    /// but where nothing hangs there.
     pub(crate) fn is_kept<L: Ledger>(
         &self,
         var: u32,
@@ -48,6 +53,9 @@ impl<'a, G: GraphRead> Frontier<'a, G> {
             (is_some (admitted_node self.now.asking.search.compiled.now (G.meaning self.now.asking.search.graph.now) self.now.asking.search.atoms.now var id) ≡ true → Contains pairs (stand_at var (Elem.Node id))) →
             IsPaidOn (G.meaning self.now.asking.search.graph.now) pairs notes.old notes.new steps.old steps.new 1 }
     {
+        if !is_left(self.asking.whole, var) {
+            return self.asking.search.admit_node(var, id, steps).is_some();
+        }
         match notes.on.of(var, id) {
             Some(answer) => answer,
             None => {
@@ -128,18 +136,18 @@ impl<'a, G: GraphRead> Frontier<'a, G> {
         }
     }
 
-    // The nodes behind a node, each once.
+    // The nodes behind a node, each once, and how many edges were gone over.
     fn behind<L: Ledger>(
         &self,
         hop: Hop,
         from: NodeId,
         notes: &mut Notes,
         steps: &mut Steps<L>,
-    ) -> Result<List<NodeId>, Memory>
+    ) -> Result<(List<NodeId>, usize), Memory>
         requires names { list_all (names_types self.now.asking.search.compiled.now) self.now.asking.search.atoms.now ≡ true }
         requires place { EndsIn self.now.asking.whole.now self.now.asking.whole.now }
         requires right { AreNoted self.now.asking.search.compiled.now (G.meaning self.now.asking.search.graph.now) self.now.asking.search.atoms.now self.now.asking.whole.now notes.old }
-        ensures all { IfOk result (λ ids. AreAllOf (hop_bounds self.now.asking.search.compiled.now (G.meaning self.now.asking.search.graph.now) self.now.asking.search.atoms.now self.now.asking.whole.now hop from) (at_nodes ids)) }
+        ensures all { IfOk result (λ found. AreAllOf (hop_bounds self.now.asking.search.compiled.now (G.meaning self.now.asking.search.graph.now) self.now.asking.search.atoms.now self.now.asking.whole.now hop from) (at_nodes found.0)) }
         ensures right { AreNoted self.now.asking.search.compiled.now (G.meaning self.now.asking.search.graph.now) self.now.asking.search.atoms.now self.now.asking.whole.now notes.new }
         ensures full { StayFull notes.old notes.new }
         ensures no_step_back { steps.old ≤ steps.new }
@@ -150,9 +158,11 @@ impl<'a, G: GraphRead> Frontier<'a, G> {
             OnOk result (IsPaidOn (G.meaning self.now.asking.search.graph.now) pairs notes.old notes.new steps.old steps.new (hop_most (G.meaning self.now.asking.search.graph.now) (length self.now.asking.whole.now) (stand_at var (Elem.Node from)))) }
     {
         let mut ends = Vec::new(self.alloc);
+        let mut edges = 0;
         for nth in 0..self.asking.search.graph.count() as usize {
             match edge_along(self.asking.search.graph, from, hop.forward, nth, steps) {
                 Some(id) => {
+                    edges = nth + 1;
                     if let Some(edge) = self.edge_kept(hop.edge, id, notes, steps) {
                         self.add_end_kept(hop, edge, &mut ends, notes, steps)?;
                     }
@@ -160,10 +170,11 @@ impl<'a, G: GraphRead> Frontier<'a, G> {
                 None => break,
             }
         }
-        Ok(nodes_in_order(ends))
+        Ok((nodes_in_order(ends), edges))
     }
 
-    /// Adds the nodes behind a node, each once. Where they were noted it takes no look-up; else they are noted.
+    /// Adds the nodes behind a node, each once. Where they were noted it takes no look-up; else they are noted if the node has more than
+    /// a few edges.
     pub(crate) fn add_behind<L: Ledger>(
         &self,
         hop: Hop,
@@ -192,8 +203,11 @@ impl<'a, G: GraphRead> Frontier<'a, G> {
                 return Ok(());
             }
         }
-        let ids = self.behind(hop, from, notes, steps)?;
+        let (ids, edges) = self.behind(hop, from, notes, steps)?;
         ends.extend_from_slice(ids.as_slice())?;
+        if edges <= FEW_EDGES {
+            return Ok(());
+        }
         notes.links.note(hop, from, ids)
     }
 }

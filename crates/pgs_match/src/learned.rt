@@ -35,25 +35,48 @@ use std::alloc::Global;
 use std::sync::ledger::Ledger;
 
 /// The plan along which a pattern is searched from x, and what was noted along it.
-#[derive(Drop)]
 pub(crate) struct Memo {
     plan: List<Step>,
     answers: Answers,
 }
 
+// What is learned is dropped by one function of each type, so that no other function need prove anew how it is taken apart.
+impl Drop for Memo {
+    fn drop(self) {
+        let Memo {
+            plan: _,
+            answers: _,
+        } = self;
+    }
+}
+
 /// The plan along which key values are searched from x, and what was noted along it.
-#[derive(Drop)]
 pub(crate) struct WayMemo {
     plan: Plan,
     notes: Notes,
 }
 
+impl Drop for WayMemo {
+    fn drop(self) {
+        let WayMemo { plan: _, notes: _ } = self;
+    }
+}
+
 /// What the searches of one key in one graph have learned of nodes at variables.
-#[derive(Drop)]
 pub struct Learned {
     alloc: Global,
     scope: Option<Memo>,
     values: Option<WayMemo>,
+}
+
+impl Drop for Learned {
+    fn drop(self) {
+        let Learned {
+            alloc: _,
+            scope: _,
+            values: _,
+        } = self;
+    }
 }
 
 impl Learned {

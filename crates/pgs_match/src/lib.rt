@@ -12,7 +12,8 @@
 //! - the search itself: a [`Search`] reads the graph by the trait alone, each variable is bound to an element that passes the tests of
 //!   the variable. [`Search::can_complete`] takes no memory; [`Gathering::gather`] adds the tuples of expressions. Where a pattern has no
 //!   cycle, each branch is asked by itself ([`Search::can_be_given`], `specs/Branches.antt`), and tuples are gathered along the way to what
-//!   the expressions take alone (`specs/Routes.antt`).
+//!   the expressions take alone (`specs/Routes.antt`). Where they take one variable beside x, the module `frontier` goes along that way
+//!   from all nodes at a variable together, each once (`specs/Frontier.antt`).
 //!
 //! [`spread`] goes the other way: from many elements at variables together back to x, a step of the plan after the other, so that no pair of
 //! a variable and an element is gone back from twice (`specs/Spread.antt`).

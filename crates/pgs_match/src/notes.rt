@@ -41,11 +41,21 @@ pub(crate) struct Links {
 
 /// What was noted of nodes: at variables on a way, whether each is admitted there and can be given all that hangs there off the way; at
 /// variables off the way, whether it can be given all that hangs there; and the nodes behind nodes on the way.
-#[derive(Drop)]
 pub(crate) struct Notes {
     pub(crate) on: Answers,
     pub(crate) off: Answers,
     pub(crate) links: Links,
+}
+
+// Dropped by one function, so that no other function need prove anew how notes are taken apart.
+impl Drop for Notes {
+    fn drop(self) {
+        let Notes {
+            on: _,
+            off: _,
+            links: _,
+        } = self;
+    }
 }
 
 impl Links {

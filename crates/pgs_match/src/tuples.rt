@@ -76,6 +76,11 @@ impl<'a, G: GraphRead> Search<'a, G> {
         ensures no_step_back { steps.old ≤ steps.new }
         ensures at_most { steps.new ≤ steps.old + length exprs.now }
     {
+        // Most keys have one expression, whose part needs no list.
+        if let [expr] = exprs {
+            let part = self.part(alloc, expr, bindings, steps)?;
+            return Ok(part.map(Tuple::one));
+        }
         let mut parts = Vec::with_capacity(alloc, exprs.len())?;
         for expr in exprs {
             match self.part(alloc, expr, bindings, steps)? {

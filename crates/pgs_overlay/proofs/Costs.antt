@@ -1,18 +1,15 @@
 -- What the making of an overlay costs at most.
 use Rattle.std.proofs.Common.{◌≡◌, ℕ, ◌+◌, ◌*◌, ◌≤◌, true, List, Option, ap, sym, ◌∙◌, arith}
 use Rattle.std.specs.List.{list_any}
-use Rattle.std.specs.Map.{keys_of}
-use Rattle.std.specs.BTreeMap.{is_at}
 use Rattle.std.proofs.Math.Nat.{mul-le-mul_right}
 use Rattle.pgs_base.specs.declared.element.NodeId.{NodeId}
 use Rattle.pgs_base.specs.declared.element.EdgeId.{EdgeId}
 use Rattle.pgs_base.specs.declared.row.EdgeRow.{EdgeRow}
-use Rattle.pgs_base.specs.Graph.{Graph, node_cmp}
+use Rattle.pgs_base.specs.Graph.{Graph}
 use Rattle.pgs_graph.specs.declared.delta.Delta.{Delta}
 use Rattle.pgs_tables.specs.Adjacency.{ends_here}
 use Rattle.pgs_overlay.specs.Passed.{HasFew}
 use Rattle.pgs_overlay.specs.Standing.{HasDegreesWithin}
-use Rattle.pgs_overlay.proofs.Looping.{or_right}
 
 -- by the logarithm of the longest list
 pub rows_bound : (k nodes edges : ℕ) → (8 * k + 17) * edges + nodes ≤ (8 * k + 17) * (nodes + edges)
@@ -35,6 +32,5 @@ cost_bound most nodes edges =
 pub few_touched : (g : Graph) (delta : Delta) (most : ℕ) → HasDegreesWithin g delta most → (edges : List (EdgeId × Option EdgeRow)) → edges ≡ delta.edges
     → (id : NodeId) → list_any (ends_here g id) edges ≡ true → HasFew g most id
 few_touched g delta most within edges is id here =
-    let le = within id (or_right (list_any (is_at (node_cmp id)) (keys_of delta.nodes)) (list_any (ends_here g id) delta.edges)
-    (ap (list_any (ends_here g id)) (sym is) ∙ here)) in
+    let le = within id (ap (list_any (ends_here g id)) (sym is) ∙ here) in
     record { outgoing = omega (arith, le); incoming = omega (arith, le) }

@@ -22,6 +22,6 @@ pub record IsOverlay (g : Graph) (delta : Delta) (outgoing incoming : List (Node
 abbrev pub row_count : Delta → ℕ
 row_count delta = length delta.nodes + length delta.edges
 
--- no node that a delta touches, as a node of it or as an old or new end of one of its edges, has more edges than this
+-- no old or new end of an edge that a delta changes has more edges than this
 abbrev pub HasDegreesWithin : Graph → Delta → ℕ → Type 0
 HasDegreesWithin g delta most = (id : NodeId) → is_touched g delta id ≡ true → degree_of g id ≤ most

@@ -52,7 +52,7 @@ fn first_of(tuples: &[Tuple]) -> Option<Elem>
 {
     match tuples {
         [] => None,
-        [tuple, ..] => match tuple.parts().as_slice().first() {
+        [tuple, ..] => match tuple.parts().first() {
             Some(Part::Elem(elem)) => Some(*elem),
             _ => None,
         },

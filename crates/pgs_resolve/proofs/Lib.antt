@@ -1,12 +1,20 @@
+pub mod AllListed
 pub mod Computed
+pub mod Cycles
 pub mod Each
 pub mod FirstBad
 pub mod Fresh
 pub mod InOrder
+pub mod Listing
+pub mod Members
+pub mod Named
 pub mod Once
 pub mod OneAnswer
 pub mod Refusing
+pub mod Resolved
+pub mod Trails
 pub mod Trees
+pub mod Unrefused
 pub mod Valid
 pub mod ValidGuard
 pub mod ValidKeys
@@ -15,3 +23,4 @@ pub mod ValidPlaces
 pub mod ValidSpecs
 pub mod ValidTypes
 pub mod VariablesOfPaths
+pub mod Walked

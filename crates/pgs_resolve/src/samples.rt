@@ -1,20 +1,26 @@
-//! What the definitions say of small scripts and texts, which stand in `specs/Samples.antt` here and in the parser's. The
-//! functions do nothing; their contracts are the statements.
+//! What the definitions, and the words of the laws, say of small scripts and texts, which stand in `specs/Samples.antt` here and in the
+//! parser's. The functions do nothing; their contracts are the statements.
 
-ghost use Rattle.std.specs.Prelude.{◌≡◌, true, false, List, ℕ, [], ◌∷◌, Ok, Err, None, Some, codes, length};
+ghost use Rattle.std.specs.Prelude.{◌≡◌, true, false, List, ℕ, [], ◌∷◌, Ok, Err, None, Some, codes, length, map};
 ghost use Rattle.pgs_syntax.specs.declared.pattern.Atom.TheVariants.{Ends, HasLabel};
-ghost use Rattle.pgs_syntax.specs.declared.resolved.TypeNo.TheVariants as numbers;
 ghost use Rattle.pgs_syntax.specs.Samples.{staff, keyed, two_steps, moderator, pattern};
 ghost use Rattle.pgs_syntax.specs.Valid.{is_valid};
 ghost use Rattle.pgs_syntax.specs.declared.key_cause.KeyCause.TheVariants.{NoX, TwoKinds, Shared, Disconnected, UnknownVariable, TooLarge};
-ghost use Rattle.pgs_resolve.specs.declared.fault.ResolveFault.TheVariants as faults;
+ghost use Rattle.pgs_syntax.specs.Width.{first_too_wide};
+ghost use Rattle.pgs_syntax.specs.declared.script.GraphType.{GraphType};
+ghost use Rattle.pgs_resolve_declared.specs.Order.{numbering_of, node_entry};
+ghost use Rattle.pgs_resolve_declared.specs.Declarations.{nodes_of};
+ghost use Rattle.pgs_resolve_declared.specs.Imports.{walked_graphs};
+ghost use Rattle.pgs_resolve_declared.specs.Refused.{named_by};
 ghost use Rattle.pgs_resolve_keys.specs.KeyFaults.{cause_of};
-ghost use Rattle.pgs_resolve_declared.specs.Order.{numbering_of};
 ghost use Rattle.pgs_resolve_keys.specs.Patterns.{resolved_key};
 ghost use Rattle.pgs_resolve.specs.Resolution.{resolution, resolved};
 ghost use Rattle.pgs_resolve.specs.Samples.{acquaintance_schema, mail_schema, no_names, of_nodes, of_options, widest, narrow};
 ghost use Rattle.pgs_resolve.specs.SchemaOf.{IsSchemaOf, refused, schema, begins_no_item, is_no_statement};
-ghost use Rattle.pgs_syntax.specs.Width.{first_too_wide};
+ghost use Rattle.pgs_resolve.specs.Standing.{CanFollow, IsNext};
+ghost use Rattle.pgs_resolve.specs.Ways.{LeadsTo, IsOnCycle};
+ghost use Rattle.pgs_syntax.specs.declared.resolved.TypeNo.TheVariants as numbers;
+ghost use Rattle.pgs_resolve.specs.declared.fault.ResolveFault.TheVariants as faults;
 ghost use Rattle.pgs_parser.specs.Samples as texts;
 
 /// Schemas of types alone.
@@ -86,4 +92,24 @@ pub fn from_texts()
     ensures staff { IsSchemaOf texts.staff_text (schema (staff (numbers.Node 0 ∷ numbers.Node 1 ∷ []))) }
     ensures mail { IsSchemaOf texts.mail_text (schema mail_schema) }
     ensures moderator { IsSchemaOf texts.moderator_text (schema (keyed (moderator ∷ []))) }
+{}
+
+/// Of two types that name each other one leads back to itself. Of three that name one another in a row the first leads to the last in two
+/// steps, and none is on a cycle.
+pub fn ways()
+    ensures back { LeadsTo (named_by texts.cycle_of_types) (codes "a") (codes "a") }
+    ensures forth { LeadsTo (named_by texts.backwards_script) (codes "c") (codes "a") }
+    ensures no_cycle { (name : List ℕ) → IsOnCycle texts.backwards_script name → ⊥ }
+{}
+
+/// Of the three the last to be written is the first that can be listed, and the first to be written comes next behind the others.
+pub fn lists()
+    ensures first { IsNext (map (node_entry texts.backwards_script) (nodes_of texts.backwards_script)) [] (codes "a") }
+    ensures last { IsNext (map (node_entry texts.backwards_script) (nodes_of texts.backwards_script)) (codes "a" ∷ codes "b" ∷ []) (codes "c") }
+    ensures not_before { CanFollow [] (codes "b") (codes "a" ∷ []) → ⊥ }
+{}
+
+/// A graph type that is imported twice, once through another, is walked once.
+pub fn walks()
+    ensures { map (λ (type : GraphType). type.name) (walked_graphs texts.importing) ≡ codes "f" ∷ codes "h" ∷ codes "g" ∷ [] }
 {}

@@ -4,11 +4,11 @@ use Rattle.pgs_answer.specs.Lines.{words_refused_line}
 use Rattle.pgs_command.specs.Spec.{CommandSpec}
 use Rattle.pgs_command.specs.Words.{refused_words}
 use Rattle.pgs_run_apply.specs.Spec.{apply_spec}
-use Rattle.pgs_run_checkpoint.specs.Spec.{checkpoint_spec}
 use Rattle.pgs_run_contain.specs.Spec.{contain_spec}
-use Rattle.pgs_run_evolve.specs.Spec.{evolve_spec}
 use Rattle.pgs_run_gen.specs.Spec.{gen_spec}
-use Rattle.pgs_run_load.specs.Spec.{load_spec}
+use Rattle.pgs_run_renewal.specs.CheckpointSpec.{checkpoint_spec}
+use Rattle.pgs_run_renewal.specs.EvolveSpec.{evolve_spec}
+use Rattle.pgs_run_renewal.specs.LoadSpec.{load_spec}
 use Rattle.pgs_run_store.specs.Dump.{told_dump}
 use Rattle.pgs_run_store.specs.Explaining.{told_element}
 use Rattle.pgs_run_store.specs.Spec.{reader_spec}

@@ -32,9 +32,9 @@ use Rattle.pgs_command.proofs.Images.{area_beside}
 use Rattle.pgs_run_input.specs.Session.{standard, decision_on}
 use Rattle.pgs_run_store.proofs.Shown.{same_shown, same_faults}
 use Rattle.pgs_run_apply.specs.Asking.{Asks, IsDoneBy, is_early}
-use Rattle.pgs_run_apply_rule.specs.Outcome.{IsPast, IsLeftBy, Takes, refusing, deciding}
+use Rattle.pgs_run_apply.specs.Outcome.{IsPast, IsLeftBy, Takes, refusing, deciding}
 use Rattle.pgs_run_apply.specs.Seen.{state_with}
-use Rattle.pgs_run_apply_rule.specs.State.{ApplyState, HoldsStore}
+use Rattle.pgs_run_apply.specs.State.{ApplyState, HoldsStore}
 use Rattle.pgs_run_apply.proofs.Taken.{PutsPiece, take_none, take_put}
 
 -- within the limits of the program a store decides as lines are told

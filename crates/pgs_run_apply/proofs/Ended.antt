@@ -24,10 +24,10 @@ use Rattle.pgs_command.specs.Run.{EndsAs, HasCause, IsRead, TakesWithin}
 use Rattle.pgs_command.proofs.OwnEnds.{full_taken}
 use Rattle.pgs_run_store.specs.Opening.{IsRefusal}
 use Rattle.pgs_run_store.proofs.Shown.{same_faults, shown_quiet}
-use Rattle.pgs_run_apply_rule.specs.Applying.{applying}
+use Rattle.pgs_run_apply.specs.Applying.{applying}
 use Rattle.pgs_run_apply.specs.Ending.{EndsRun, StaysStill}
-use Rattle.pgs_run_apply_rule.specs.Outcome.{outcome_of}
-use Rattle.pgs_run_apply_rule.specs.State.{ApplyState, status_after}
+use Rattle.pgs_run_apply.specs.Outcome.{outcome_of}
+use Rattle.pgs_run_apply.specs.State.{ApplyState, status_after}
 use Rattle.pgs_run_apply.specs.Told.{last_piece, with_last}
 
 -- ---- how a run may end

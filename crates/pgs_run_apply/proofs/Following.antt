@@ -16,10 +16,10 @@ use Rattle.pgs_violation.specs.Violations.{verdict}
 use Rattle.pgs_run_input.specs.Answers.{txn_answer}
 use Rattle.pgs_run_input.specs.Input.{text_limit, text_front, is_skipped}
 use Rattle.pgs_run_input.specs.Session.{Standing, decision_on, with_text, answer_to_txn, answer_to, after_answer, after_line, after_lines, every_verdict, pieces_of_line, pieces_of_lines}
-use Rattle.pgs_run_apply_rule.specs.Applying.{applying}
+use Rattle.pgs_run_apply.specs.Applying.{applying}
 use Rattle.pgs_run_apply.specs.Committing.{deliveries_of, deliveries_of_answer, deliveries_at, deliveries}
-use Rattle.pgs_run_apply_rule.specs.Outcome.{Outcome, skipping, refusing, deciding, answering, outcome_of, and_then, outcome_of_all}
-use Rattle.pgs_run_apply_rule.specs.State.{ApplyState, standing_of}
+use Rattle.pgs_run_apply.specs.Outcome.{Outcome, skipping, refusing, deciding, answering, outcome_of, and_then, outcome_of_all}
+use Rattle.pgs_run_apply.specs.State.{ApplyState, standing_of}
 
 -- ---- one outcome after another
 

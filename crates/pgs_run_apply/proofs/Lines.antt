@@ -13,11 +13,11 @@ use Rattle.pgs_world.specs.Moment.{EachSince}
 use Rattle.pgs_world.specs.World.{Triple, View}
 use Rattle.pgs_world.proofs.Moments.{each_weaker}
 use Rattle.pgs_command.specs.declared.status.Status.{Status}
-use Rattle.pgs_run_apply_rule.specs.Applying.{Applies, AreReached, IsLeft, MayStop, applying, is_all}
-use Rattle.pgs_run_apply_rule.specs.Outcome.{Outcome, IsFault, IsLeftBy, IsReached, Takes, come_to, outcome_of, skipping}
-use Rattle.pgs_run_apply_rule.specs.State.{ApplyState, HoldsStore, status_after}
+use Rattle.pgs_run_apply.specs.Applying.{Applies, AreReached, IsLeft, MayStop, applying, is_all}
+use Rattle.pgs_run_apply.specs.Outcome.{Outcome, IsFault, IsLeftBy, IsReached, Takes, come_to, outcome_of, skipping}
+use Rattle.pgs_run_apply.specs.State.{ApplyState, HoldsStore, status_after}
 use Rattle.pgs_run_apply.proofs.Following.{counted, outcome_one}
-use Rattle.pgs_run_apply_rule.proofs.Rule.{past_as, saved_as}
+use Rattle.pgs_run_apply.specs.RuleLaws.{past_as, saved_as}
 
 by_fault : (P : Stop Status → Type 0) → P stops.DiskFault → P stops.PutFault → P stops.Memory → (stop : Stop Status) → IsFault stop → P stop
 by_fault P disk put memory (stops.Ended status) fault = absurd fault

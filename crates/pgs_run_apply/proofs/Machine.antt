@@ -10,13 +10,13 @@ use Rattle.pgs_command.specs.declared.status.Status.{Status}
 use Rattle.pgs_command.specs.declared.status.Status.TheVariants as statuses
 use Rattle.pgs_run_input.specs.Input.{text_limit, text_front}
 use Rattle.pgs_run_store.specs.Opening.{saved_in}
-use Rattle.pgs_run_apply_rule.specs.Applying.{applying}
+use Rattle.pgs_run_apply.specs.Applying.{applying}
 use Rattle.pgs_run_apply.specs.Committing.{deliveries}
-use Rattle.pgs_run_apply_rule.specs.Outcome.{Outcome, outcome_of_all}
+use Rattle.pgs_run_apply.specs.Outcome.{Outcome, outcome_of_all}
 use Rattle.pgs_run_apply.specs.Seen.{state_with}
-use Rattle.pgs_run_apply_rule.specs.State.{ApplyState, status_after}
+use Rattle.pgs_run_apply.specs.State.{ApplyState, status_after}
 use Rattle.pgs_run_apply.specs.Told.{start, after, verdicts, all_lines, told_lines}
-use Rattle.pgs_run_apply_rule.proofs.Rule.{lead, outcome_append}
+use Rattle.pgs_run_apply.specs.RuleLaws.{lead, outcome_append}
 use Rattle.pgs_run_apply.proofs.Following.{Follows, follows_lines, outcome_fronts, outcome_one, tells}
 
 -- before the first line

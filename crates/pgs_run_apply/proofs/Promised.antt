@@ -38,16 +38,16 @@ use Rattle.pgs_run_store.specs.Opening.{IsOpened, saved_in}
 use Rattle.pgs_run_store.specs.Refusing.{SavedStore}
 use Rattle.pgs_run_store.proofs.Reading as reading
 use Rattle.pgs_run_store.proofs.Shown.{shown_quiet, same_faults}
-use Rattle.pgs_run_apply_rule.specs.Applying.{AreReached, IsLeft, applying, seen}
+use Rattle.pgs_run_apply.specs.Applying.{AreReached, IsLeft, applying, seen}
 use Rattle.pgs_run_apply.specs.Committing.{deliveries}
 use Rattle.pgs_run_apply.specs.Ending.{EndsRun, StaysStill}
 use Rattle.pgs_run_apply.specs.Giving.{IsGivenBy}
 use Rattle.pgs_run_apply.specs.Leaving.{FeedsApplied, LeavesApplied}
-use Rattle.pgs_run_apply_rule.specs.Outcome.{Outcome, HasPut, is_struck, is_torn, outcome_of_all}
+use Rattle.pgs_run_apply.specs.Outcome.{Outcome, HasPut, is_struck, is_torn, outcome_of_all}
 use Rattle.pgs_run_apply.specs.Rule.{applies_rule}
 use Rattle.pgs_run_apply.specs.Run.{Saves, SavesOn, IsAppliedAt, IsDecided, IsGrown, IsPutBy}
 use Rattle.pgs_run_apply.specs.Spec.{apply_spec}
-use Rattle.pgs_run_apply_rule.specs.State.{ApplyState, HoldsStore}
+use Rattle.pgs_run_apply.specs.State.{ApplyState, HoldsStore}
 use Rattle.pgs_run_apply.specs.Told.{start, after, all_lines, is_done, last_piece, lost_piece, lost_pieces, told_apply, told_lines, verdicts, with_last}
 use Rattle.pgs_run_apply.proofs.Unmoved.{grown_kept, grown_same, quiet_applied, saves_on_same}
 use Rattle.pgs_run_apply.proofs.Ended.{by_last, by_stop, ended_cause, ends_last, is_full, is_read, may_end, still_shown, takes_last, unrefused}

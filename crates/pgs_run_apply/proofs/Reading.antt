@@ -21,14 +21,14 @@ use Rattle.pgs_command.specs.declared.status.Status.{Status}
 use Rattle.pgs_command.specs.declared.status.Status.TheVariants.{InputTooLong}
 use Rattle.pgs_command.specs.Ending.{status_at}
 use Rattle.pgs_run_input.specs.Input.{text_limit, text_front}
-use Rattle.pgs_run_apply_rule.specs.Applying.{AreReached, IsLeft, IsWithin, applying, is_all, seen, stop_in}
-use Rattle.pgs_run_apply_rule.specs.Outcome.{Outcome, IsPast, IsReached, IsSavedAt, outcome_of, outcome_of_all}
+use Rattle.pgs_run_apply.specs.Applying.{AreReached, IsLeft, IsWithin, applying, is_all, seen, stop_in}
+use Rattle.pgs_run_apply.specs.Outcome.{Outcome, IsPast, IsReached, IsSavedAt, outcome_of, outcome_of_all}
 use Rattle.pgs_run_apply.specs.Rule.{applies_rule}
-use Rattle.pgs_run_apply_rule.specs.State.{ApplyState}
+use Rattle.pgs_run_apply.specs.State.{ApplyState}
 use Rattle.pgs_run_apply.specs.Told.{all_lines, is_done}
-use Rattle.pgs_run_apply_rule.proofs.Rule.{lead}
+use Rattle.pgs_run_apply.specs.RuleLaws.{lead}
 use Rattle.pgs_run_apply.proofs.Following.{outcome_front, outcome_fronts}
-use Rattle.pgs_run_apply_rule.proofs.Rule.{left_more}
+use Rattle.pgs_run_apply.specs.RuleLaws.{left_more}
 
 -- ---- lists of fronts
 

@@ -19,11 +19,11 @@ use Rattle.pgs_run_input.specs.Session.{Standing, standard}
 use Rattle.pgs_run_store.specs.Opening.{saved_in}
 use Rattle.pgs_run_store.specs.Refusing.{SavedStore}
 use Rattle.pgs_run_store.proofs.Conforming.{chosen_saves, saved_conforms}
-use Rattle.pgs_run_apply_rule.specs.Applying.{IsLeft, IsWithin}
-use Rattle.pgs_run_apply_rule.specs.Outcome.{Outcome, outcome_of_all}
+use Rattle.pgs_run_apply.specs.Applying.{IsLeft, IsWithin}
+use Rattle.pgs_run_apply.specs.Outcome.{Outcome, outcome_of_all}
 use Rattle.pgs_run_apply.specs.Run.{Saves, SavesAt, SavesOn, SavesNext, SavesAll, IsAppliedAt, IsGrown}
 use Rattle.pgs_run_apply.specs.Told.{after, verdicts, all_lines}
-use Rattle.pgs_run_apply_rule.proofs.Rule.{outcome_append}
+use Rattle.pgs_run_apply.specs.RuleLaws.{outcome_append}
 use Rattle.pgs_run_apply.proofs.Following.{follows_at}
 use Rattle.pgs_run_apply.proofs.Machine.{first_state, told_follows}
 

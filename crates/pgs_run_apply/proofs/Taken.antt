@@ -27,9 +27,9 @@ use Rattle.pgs_command.specs.Images.{KeepsArea}
 use Rattle.pgs_command.proofs.Images.{area_none, area_of_images, area_on, images_areas, settled_images}
 use Rattle.pgs_run_input.specs.Session.{standard}
 use Rattle.pgs_run_input.proofs.Standard.{standard_is}
-use Rattle.pgs_run_apply_rule.specs.Outcome.{Outcome, IsFault, IsLeftBy, IsReached, Takes, come_to, refusing, skipping, stop_of}
-use Rattle.pgs_run_apply_rule.specs.State.{ApplyState, HoldsStore, with_refusal}
-use Rattle.pgs_run_apply_rule.proofs.Rule.{saved_here}
+use Rattle.pgs_run_apply.specs.Outcome.{Outcome, IsFault, IsLeftBy, IsReached, Takes, come_to, refusing, skipping, stop_of}
+use Rattle.pgs_run_apply.specs.State.{ApplyState, HoldsStore, with_refusal}
+use Rattle.pgs_run_apply.specs.RuleLaws.{saved_here}
 
 -- ---- a put
 

@@ -1,10 +1,14 @@
+pub mod Applying
 pub mod Asking
 pub mod Committing
 pub mod Ending
 pub mod Giving
 pub mod Leaving
+pub mod Outcome
 pub mod Rule
+pub mod RuleLaws
 pub mod Run
 pub mod Seen
 pub mod Spec
+pub mod State
 pub mod Told

@@ -2,9 +2,9 @@
 use Rattle.std.specs.Prelude.{true}
 use Rattle.pgs_feed.specs.Deliveries.{ListKind}
 use Rattle.pgs_run_lines.specs.Machine.{Rule}
-use Rattle.pgs_run_apply_rule.specs.Applying.{Applies, applying}
-use Rattle.pgs_run_apply_rule.specs.State.{HoldsStore}
-use Rattle.pgs_run_apply_rule.proofs.Rule.{applies_from, applies_none}
+use Rattle.pgs_run_apply.specs.Applying.{Applies, applying}
+use Rattle.pgs_run_apply.specs.RuleLaws.{applies_from, applies_none}
+use Rattle.pgs_run_apply.specs.State.{HoldsStore}
 
 abbrev pub applies_rule : ListKind → Rule applying
 applies_rule kind = record {

@@ -2,7 +2,7 @@
 use Rattle.std.specs.Prelude.{ℕ, Bool}
 use Rattle.pgs_store.specs.Stored.{StoreState}
 use Rattle.pgs_run_apply.specs.declared.applying.Applying.{Applying}
-use Rattle.pgs_run_apply_rule.specs.State.{ApplyState}
+use Rattle.pgs_run_apply.specs.State.{ApplyState}
 
 -- a store, how many lines are numbered so far, and whether one was refused
 abbrev pub state_with : StoreState → ℕ → Bool → ApplyState

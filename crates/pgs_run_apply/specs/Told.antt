@@ -9,7 +9,7 @@ use Rattle.pgs_command.specs.declared.status.Status.{Status}
 use Rattle.pgs_command.specs.declared.status.Status.TheVariants.{Accepted, Refused, InputTooLong}
 use Rattle.pgs_command.specs.Areas.{Areas}
 use Rattle.pgs_run_input.specs.Session.{Standing, every_verdict, after_lines, pieces_of_lines}
-use Rattle.pgs_run_apply_rule.specs.State.{status_after}
+use Rattle.pgs_run_apply.specs.State.{status_after}
 use Rattle.pgs_run_store.specs.Refusing.{SavedStore, told_of_areas}
 
 -- where a run stands before its first line: commit numbers go on from those that are saved

@@ -7,12 +7,12 @@ ghost use Rattle.pgs_feed.specs.Given.{AreGiven};
 ghost use Rattle.pgs_run_lines.specs.Machine.{scene_of};
 ghost use Rattle.pgs_violation.specs.Violations.{verdict};
 ghost use Rattle.pgs_run_input.specs.Session.{standard, decision_on};
-ghost use Rattle.pgs_run_apply_rule.specs.Applying.{applying};
+ghost use Rattle.pgs_run_apply.specs.Applying.{applying};
 ghost use Rattle.pgs_run_apply.specs.Committing.{IsLineFor};
-ghost use Rattle.pgs_run_apply_rule.specs.Outcome.{Takes, refusing, deciding, outcome_of};
+ghost use Rattle.pgs_run_apply.specs.Outcome.{Takes, refusing, deciding, outcome_of};
 ghost use Rattle.pgs_run_apply.specs.Rule.{applies_rule};
 ghost use Rattle.pgs_run_apply.specs.Seen.{state_of, state_with};
-ghost use Rattle.pgs_run_apply_rule.specs.State.{HoldsStore, status_after};
+ghost use Rattle.pgs_run_apply.specs.State.{HoldsStore, status_after};
 
 use crate::asking::ask;
 use pgs_answer::{committed_line, feed_line, refused_line, rejection_text};

@@ -6,7 +6,7 @@ use Rattle.pgs_syntax.specs.declared.resolved.Resolved.{Resolved}
 use Rattle.pgs_violation.specs.Violations.{conforms}
 use Rattle.pgs_command.specs.declared.status.Status.{Status}
 use Rattle.pgs_command.specs.declared.status.Status.TheVariants.{Accepted, Refused}
-use Rattle.pgs_schema_order.specs.AsksNoMore.{are_keys_kept}
+use Rattle.pgs_schema_changes.specs.AsksNoMore.{are_keys_kept}
 use Rattle.pgs_schema_changes.specs.Safe.{is_safe}
 use Rattle.pgs_schema_changes.proofs.Steps.{keeps_graphs}
 use Rattle.pgs_run_contain.specs.Answers.{Answer}

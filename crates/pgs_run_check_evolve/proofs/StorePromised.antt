@@ -39,8 +39,8 @@ use Rattle.pgs_run_store.specs.Opening.{IsOpened, saved_in}
 use Rattle.pgs_run_store.specs.Refusing.{SavedStore}
 use Rattle.pgs_run_store.proofs.Reading.{told_opened}
 use Rattle.pgs_run_store.proofs.Unread.{RunsUnopened, unopened_answer, unopened_by, unopened_cause, unopened_ends, unopened_images, unopened_read, unopened_short, unopened_takes}
-use Rattle.pgs_run_evolve.proofs.Kept.{next_there}
-use Rattle.pgs_run_evolve.proofs.Promised.{Opening, evolvable}
+use Rattle.pgs_run_renewal.proofs.EvolveKept.{next_there}
+use Rattle.pgs_run_renewal.proofs.EvolvePromised.{Opening, evolvable}
 use Rattle.pgs_run_check_evolve.specs.Stored.{AnswersStored, IsRightOf, TellsNext, told_evolve_store, told_next, told_text, told_within}
 use Rattle.pgs_run_check_evolve.specs.StoreSpec.{check_evolve_store_spec}
 use Rattle.pgs_run_check_evolve.specs.Told.{AreRightly, Chosen, nothing_chosen}

@@ -1,7 +1,7 @@
 -- The lines of what a step changes: the keys of the new guard, in their order, those of the old guard that are dropped, and that it is safe.
 use Rattle.std.specs.Prelude.{ℕ, ◌+◌, Bool, true, false, List, [], ◌∷◌, ◌++◌, Option, Some, None, codes, decimal, map, if◌then◌else◌}
 use Rattle.pgs_syntax.specs.declared.resolved.Resolved.{Resolved}
-use Rattle.pgs_schema_order.specs.AsksNoMore.{is_kept, is_dropped}
+use Rattle.pgs_schema_changes.specs.AsksNoMore.{is_kept, is_dropped}
 use Rattle.pgs_schema_changes.specs.Safe.{asks_strict, is_safe}
 use Rattle.pgs_run_check_evolve.specs.declared.lines.KeysOf.{KeysOf}
 use Rattle.pgs_run_check_evolve.specs.declared.lines.KeysOf.TheVariants.{New, Old}

@@ -12,7 +12,7 @@ use Rattle.pgs_syntax.specs.declared.resolved.TypeNo.{TypeNo}
 use Rattle.pgs_syntax.specs.declared.resolved.TypeNo.TheVariants as types
 use Rattle.pgs_syntax.specs.declared.specification.Leaf.{Leaf}
 use Rattle.pgs_contain.specs.Contained.{IsContained}
-use Rattle.pgs_schema_order.specs.AsksNoMore.{AreTypesContained, is_concrete}
+use Rattle.pgs_schema_changes.specs.AsksNoMore.{AreTypesContained, is_concrete}
 use Rattle.pgs_command.specs.declared.status.Status.{Status}
 use Rattle.pgs_run_contain.specs.Answers.{Answer, AreRight, Listed, listed, listed_at, shown_name}
 use Rattle.pgs_run_contain.specs.Names.{Names}

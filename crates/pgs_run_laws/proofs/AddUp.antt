@@ -25,12 +25,12 @@ use Rattle.pgs_command.specs.Images.{IsUnwritten}
 use Rattle.pgs_run_input.specs.Session.{standard}
 use Rattle.pgs_run_apply.specs.Run.{Saves, IsDecided, IsPutBy}
 use Rattle.pgs_run_apply.specs.Told.{after, verdicts, all_lines, lost_pieces}
-use Rattle.pgs_run_checkpoint.specs.Told.{told_by, told_checkpoint}
-use Rattle.pgs_run_evolve.specs.Leaving.{LeavesEvolved}
-use Rattle.pgs_run_evolve.specs.Leaving.{IsMade as MadeAt}
-use Rattle.pgs_run_evolve.specs.Told.{told_evolve, told_input, told_text, told_verdict}
-use Rattle.pgs_run_load.specs.Loading.{IsMade}
-use Rattle.pgs_run_load.specs.Told.{line_of, told_choice, told_load}
+use Rattle.pgs_run_renewal.specs.CheckpointTold.{told_by, told_checkpoint}
+use Rattle.pgs_run_renewal.specs.EvolveLeaving.{LeavesEvolved}
+use Rattle.pgs_run_renewal.specs.EvolveLeaving.{IsMade as MadeAt}
+use Rattle.pgs_run_renewal.specs.EvolveTold.{told_evolve, told_input, told_text, told_verdict}
+use Rattle.pgs_run_renewal.specs.Loading.{IsMade}
+use Rattle.pgs_run_renewal.specs.LoadTold.{line_of, told_choice, told_load}
 use Rattle.pgs_run_store.specs.Dump.{dump, told_dump}
 use Rattle.pgs_run_store.specs.Refusing.{SavedStore, told_of_areas, told_saved, told_under}
 use Rattle.pgs_command.specs.Promise.{Knows, Promise, Runs}

@@ -7,7 +7,7 @@ use Rattle.pgs_base.specs.Graph.{Graph, is_graph}
 use Rattle.pgs_run_lines.specs.Machine.{Told}
 use Rattle.pgs_syntax.specs.declared.resolved.Resolved.{Resolved}
 use Rattle.pgs_violation.specs.Violations.{conforms}
-use Rattle.pgs_schema_order.specs.AsksNoMore.{AsksNoMore}
+use Rattle.pgs_schema_changes.specs.AsksNoMore.{AsksNoMore}
 use Rattle.pgs_run_words.specs.declared.command.Command.TheVariants.{Contain}
 use Rattle.pgs_world.specs.World.{View}
 use Rattle.pgs_command.specs.declared.status.Status.{Status}

@@ -29,14 +29,14 @@ use Rattle.pgs_run_input.specs.Session.{every_verdict, standard}
 use Rattle.pgs_run_input.proofs.Following.{pieces_of_lines-append, pieces_of_one}
 use Rattle.pgs_run_apply.specs.Run.{IsAppliedAt, Saves, SavesAll, SavesAt, SavesNext}
 use Rattle.pgs_run_apply.specs.Told.{after, all_lines, start, verdicts}
-use Rattle.pgs_run_checkpoint.specs.Leaving.{IsAsBefore, IsRenewed, StopsRenewing}
-use Rattle.pgs_run_checkpoint.specs.Told.{told_by, told_checkpoint}
-use Rattle.pgs_run_evolve.specs.Evolving.{IsEvolvingAt, IsUnder}
-use Rattle.pgs_run_evolve.specs.Evolving.{IsRenewed as IsEvolved}
-use Rattle.pgs_run_evolve.specs.Leaving.{kept_of}
-use Rattle.pgs_run_evolve.specs.Told.{line_of as evolved_line_of}
-use Rattle.pgs_run_load.specs.Loading.{IsLoadingAt, IsNewStore}
-use Rattle.pgs_run_load.specs.Told.{line_of}
+use Rattle.pgs_run_renewal.specs.CheckpointLeaving.{IsAsBefore, IsRenewed, StopsRenewing}
+use Rattle.pgs_run_renewal.specs.CheckpointTold.{told_by, told_checkpoint}
+use Rattle.pgs_run_renewal.specs.Evolving.{IsEvolvingAt, IsUnder}
+use Rattle.pgs_run_renewal.specs.Evolving.{IsRenewed as IsEvolved}
+use Rattle.pgs_run_renewal.specs.EvolveLeaving.{kept_of}
+use Rattle.pgs_run_renewal.specs.EvolveTold.{line_of as evolved_line_of}
+use Rattle.pgs_run_renewal.specs.Loading.{IsLoadingAt, IsNewStore}
+use Rattle.pgs_run_renewal.specs.LoadTold.{line_of}
 use Rattle.pgs_run_store.specs.Refusing.{SavedStore}
 use Rattle.pgs_run.specs.Commands.{spec_named, spec_of}
 use Rattle.pgs_run_laws.specs.Crashes.{DoesInto, IsBegun, IsFrontOf, IsOutButLast, Leaves, LeavesEpoch, LeavesNone, RanInto, ShowsImages, Stands, after_lines, lost_behind}

@@ -36,17 +36,17 @@ use Rattle.pgs_command.specs.Spec.{CommandSpec}
 use Rattle.pgs_command.specs.Words.{refused_words}
 use Rattle.pgs_run_apply.specs.Run.{IsDecided, IsPutBy, Saves}
 use Rattle.pgs_run_apply.specs.Told.{after, all_lines, last_piece, lost_pieces, start, told_apply, told_lines, verdicts, with_last}
-use Rattle.pgs_run_apply_rule.specs.State.{status_after}
-use Rattle.pgs_run_checkpoint.specs.Leaving.{IsRenewed, IsTorn}
-use Rattle.pgs_run_checkpoint.specs.Leaving.{IsUnput as IsUnrenewed}
-use Rattle.pgs_run_checkpoint.specs.Told.{told_by, told_checkpoint}
-use Rattle.pgs_run_evolve.specs.Leaving.{IsConforming}
-use Rattle.pgs_run_evolve.specs.Leaving.{IsMade as MadeAt}
-use Rattle.pgs_run_evolve.specs.Leaving.{IsUnput as IsUnevolved}
-use Rattle.pgs_run_evolve.specs.Told.{told_evolve, told_input}
-use Rattle.pgs_run_load.specs.Leaving.{IsUnput as IsUnloaded}
-use Rattle.pgs_run_load.specs.Loading.{IsMade}
-use Rattle.pgs_run_load.specs.Told.{told_choice, told_load}
+use Rattle.pgs_run_apply.specs.State.{status_after}
+use Rattle.pgs_run_renewal.specs.CheckpointLeaving.{IsRenewed, IsTorn}
+use Rattle.pgs_run_renewal.specs.CheckpointLeaving.{IsUnput as IsUnrenewed}
+use Rattle.pgs_run_renewal.specs.CheckpointTold.{told_by, told_checkpoint}
+use Rattle.pgs_run_renewal.specs.EvolveLeaving.{IsConforming}
+use Rattle.pgs_run_renewal.specs.EvolveLeaving.{IsMade as MadeAt}
+use Rattle.pgs_run_renewal.specs.EvolveLeaving.{IsUnput as IsUnevolved}
+use Rattle.pgs_run_renewal.specs.EvolveTold.{told_evolve, told_input}
+use Rattle.pgs_run_renewal.specs.LoadLeaving.{IsUnput as IsUnloaded}
+use Rattle.pgs_run_renewal.specs.Loading.{IsMade}
+use Rattle.pgs_run_renewal.specs.LoadTold.{told_choice, told_load}
 use Rattle.pgs_run_store.specs.Dump.{told_dump}
 use Rattle.pgs_run_store.specs.Refusing.{SavedStore, store_refused, told_of_areas, told_saved, told_under}
 use Rattle.pgs_run.specs.Commands.{spec_named, spec_of}

@@ -3,7 +3,7 @@ use Rattle.std.specs.Prelude.{◌≡◌, true, List, ℕ, Ok}
 use Rattle.pgs_base.specs.Graph.{Graph, is_graph}
 use Rattle.pgs_syntax.specs.declared.resolved.Resolved.{Resolved}
 use Rattle.pgs_violation.specs.Violations.{conforms}
-use Rattle.pgs_schema_order.specs.AsksNoMore.{AreTypesContained, are_keys_kept}
+use Rattle.pgs_schema_changes.specs.AsksNoMore.{AreTypesContained, are_keys_kept}
 use Rattle.pgs_run_input.specs.Answers.{schema_answer}
 use Rattle.pgs_run_input.specs.Input.{schema_part}
 use Rattle.pgs_run_contain.specs.Told.{second_part}

@@ -19,7 +19,7 @@ use Rattle.pgs_run_input.specs.Answers.{schema_answer}
 use Rattle.pgs_run_input.specs.Session.{standard}
 use Rattle.pgs_run_apply.specs.Run.{Saves}
 use Rattle.pgs_run_apply.specs.Told.{after, verdicts, all_lines, lost_pieces}
-use Rattle.pgs_run_evolve.specs.Told.{line_of as evolved_line_of}
+use Rattle.pgs_run_renewal.specs.EvolveTold.{line_of as evolved_line_of}
 use Rattle.pgs_run_store.specs.Refusing.{SavedStore}
 use Rattle.pgs_run.specs.Commands.{spec_for, spec_of}
 use Rattle.pgs_run_laws.specs.Sequence.{Applied, Deed, DoAll, Evolved, Renewed, told_deeds, under_text}

@@ -22,12 +22,12 @@ use Rattle.pgs_command.specs.Promise.{Runs}
 use Rattle.pgs_command.specs.Setting.{SourceState}
 use Rattle.pgs_run_input.specs.Answers.{schema_answer}
 use Rattle.pgs_run_apply.specs.Told.{verdicts, all_lines, lost_pieces, told_lines, with_last}
-use Rattle.pgs_run_checkpoint.specs.Leaving.{IsUnput as IsUnrenewed}
-use Rattle.pgs_run_checkpoint.specs.Told.{told_by}
-use Rattle.pgs_run_evolve.specs.Leaving.{IsUnput as IsUnevolved}
-use Rattle.pgs_run_evolve.specs.Told.{told_input}
-use Rattle.pgs_run_load.specs.Leaving.{IsUnput as IsUnloaded}
-use Rattle.pgs_run_load.specs.Told.{line_of}
+use Rattle.pgs_run_renewal.specs.CheckpointLeaving.{IsUnput as IsUnrenewed}
+use Rattle.pgs_run_renewal.specs.CheckpointTold.{told_by}
+use Rattle.pgs_run_renewal.specs.EvolveLeaving.{IsUnput as IsUnevolved}
+use Rattle.pgs_run_renewal.specs.EvolveTold.{told_input}
+use Rattle.pgs_run_renewal.specs.LoadLeaving.{IsUnput as IsUnloaded}
+use Rattle.pgs_run_renewal.specs.LoadTold.{line_of}
 use Rattle.pgs_run_store.specs.Dump.{told_dump}
 use Rattle.pgs_run_store.specs.Refusing.{SavedStore, store_refused, told_under}
 use Rattle.pgs_run.specs.Commands.{spec_for}

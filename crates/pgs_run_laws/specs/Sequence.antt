@@ -16,8 +16,8 @@ use Rattle.pgs_run_input.specs.Answers.{schema_answer}
 use Rattle.pgs_command.specs.declared.status.Status.{Status}
 use Rattle.pgs_command.specs.declared.status.Status.TheVariants.{Accepted, Refused}
 use Rattle.pgs_run_apply.specs.Told.{after, verdicts, all_lines, lost_pieces}
-use Rattle.pgs_run_evolve.specs.Told.{told_text}
-use Rattle.pgs_run_load.specs.Told.{line_of}
+use Rattle.pgs_run_renewal.specs.EvolveTold.{told_text}
+use Rattle.pgs_run_renewal.specs.LoadTold.{line_of}
 use Rattle.pgs_run_store.specs.Dump.{dump}
 use Rattle.pgs_run_store.specs.Refusing.{SavedStore}
 use Rattle.pgs_command.specs.Promise.{Runs}

@@ -14,7 +14,7 @@ ghost use Rattle.pgs_syntax.specs.declared.resolved.Resolved.{Resolved};
 ghost use Rattle.pgs_run_words.specs.declared.command.Command.TheVariants.{Contain, Load, Recover, Validate};
 ghost use Rattle.pgs_world.specs.Moment.{IsSettled};
 ghost use Rattle.pgs_world.specs.World.{Triple};
-ghost use Rattle.pgs_run_load.specs.Told.{line_of};
+ghost use Rattle.pgs_run_renewal.specs.LoadTold.{line_of};
 ghost use Rattle.pgs_run_store.specs.Refusing.{SavedStore};
 ghost use Rattle.pgs_run_lines.specs.Pieces.{ShowsAll, shown_of};
 ghost use Rattle.pgs_store.specs.Loads.{FindsNone};
@@ -101,7 +101,7 @@ pub fn what_is_contained_is_kept<W: World>()
     ensures { (input : List ℕ) (lost : ℕ) (old new : W) → length input < BUDGET
         → (ran : Ran Contain input lost (W.view old) (W.view new)) → ran.status ≡ Accepted → IsCompared input }
 {
-    pgs_schema_order::laws::what_asks_no_more_is_kept();
+    pgs_schema_changes::laws::what_asks_no_more_is_kept();
 }
 
 /// A crash inside a run of `apply`, `checkpoint` or `evolve`, which began on a world that tells its bytes and output and on which nothing is

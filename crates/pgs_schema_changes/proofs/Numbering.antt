@@ -6,10 +6,10 @@ use Rattle.std.proofs.lemmas.Bool.{and_parts, and_from, cases_lt, eqb-true, eq-e
 use Rattle.std.proofs.lemmas.Bool.Decides.{nat_tests}
 use Rattle.std.proofs.lemmas.List.Quantifiers.{position-Some}
 use Rattle.std.proofs.lemmas.Option.{same_Some, slice_get-get_or, slice_get_within}
-use Rattle.pgs_schema_order.specs.declared.form.Form.{Form}
-use Rattle.pgs_schema_order.specs.declared.form.Form.TheVariants as forms
-use Rattle.pgs_schema_order.specs.Unfolded.{Tree, nothing, tree, same_tree}
-use Rattle.pgs_schema_order.proofs.Alike.{one_form, told_form, one_tree, told_tree}
+use Rattle.pgs_schema_changes.specs.declared.form.Form.{Form}
+use Rattle.pgs_schema_changes.specs.declared.form.Form.TheVariants as forms
+use Rattle.pgs_schema_changes.specs.Unfolded.{Tree, nothing, tree, same_tree}
+use Rattle.pgs_schema_changes.proofs.Alike.{one_form, told_form, one_tree, told_tree}
 use Rattle.pgs_schema_changes.specs.declared.trees.Entry.{Entry}
 use Rattle.pgs_schema_changes.specs.Numbers.{tree_at, trees_from, tree_of, is_entry, Means, IsNumbered, Grows, Puts, number_at, AreNamed}
 

@@ -6,8 +6,8 @@ use Rattle.pgs_base.specs.Graph.{Graph, is_graph}
 use Rattle.pgs_syntax.specs.declared.key.Key.{Key}
 use Rattle.pgs_syntax.specs.declared.resolved.Resolved.{Resolved}
 use Rattle.pgs_violation.specs.Violations.{conforms}
-use Rattle.pgs_schema_order.specs.AsksNoMore.{AreTypesContained, AsksNoMore, are_keys_kept, is_kept}
-use Rattle.pgs_schema_order.proofs.Kept.{kept}
+use Rattle.pgs_schema_changes.specs.AsksNoMore.{AreTypesContained, AsksNoMore, are_keys_kept, is_kept}
+use Rattle.pgs_schema_changes.proofs.Kept.{kept}
 use Rattle.pgs_schema_changes.specs.Safe.{is_safe}
 
 each_kept : (test : Key → Bool) (keys : List Key) → list_all (λ kept. kept) (map test keys) ≡ list_all test keys

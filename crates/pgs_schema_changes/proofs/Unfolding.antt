@@ -11,9 +11,9 @@ use Rattle.pgs_syntax.specs.declared.resolved.Resolved.{Resolved}
 use Rattle.pgs_syntax.specs.declared.specification.Leaf.{Leaf}
 use Rattle.pgs_syntax.specs.declared.specification.Spec.{Spec, And, And', Or, Or', Opt, Opt', Row_of-Spec, end_of-Spec, more_of-Spec, items-the_row-Spec, items_hidden-the_row-Spec-0}
 use Rattle.pgs_syntax.specs.declared.specification.Spec.TheBlock as block
-use Rattle.pgs_schema_order.specs.declared.form.Form.{Form}
-use Rattle.pgs_schema_order.specs.declared.form.Form.TheVariants as forms
-use Rattle.pgs_schema_order.specs.Unfolded.{Tree, nothing, tree, unfolded, unfolded_parts, tree_below, node_tree, edge_tree, edge_tree_of}
+use Rattle.pgs_schema_changes.specs.declared.form.Form.{Form}
+use Rattle.pgs_schema_changes.specs.declared.form.Form.TheVariants as forms
+use Rattle.pgs_schema_changes.specs.Unfolded.{Tree, nothing, tree, unfolded, unfolded_parts, tree_below, node_tree, edge_tree, edge_tree_of}
 use Rattle.pgs_schema_changes.specs.declared.declarations.Declarations.{Declarations}
 use Rattle.pgs_schema_changes.specs.declared.declarations.TypeNumbers.{TypeNumbers}
 use Rattle.pgs_schema_changes.specs.declared.trees.Entry.{Entry}

@@ -1,3 +1,5 @@
+pub mod AsksNoMore
 pub mod Numbers
 pub mod Parts
 pub mod Safe
+pub mod Unfolded

@@ -2,8 +2,8 @@
 -- numbers.
 use Rattle.std.specs.Prelude.{◌≡◌, ℕ, zero, suc, ◌≤◌, Bool, ◌&&◌, ◌==◌, List, [], ◌∷◌, ◌++◌, length, slice_get, unwrap_or, Some}
 use Rattle.pgs_syntax.specs.declared.resolved.Resolved.{Resolved}
-use Rattle.pgs_schema_order.specs.declared.form.Form.{Form}
-use Rattle.pgs_schema_order.specs.Unfolded.{Tree, nothing, tree, node_tree, edge_tree, same_form, same_tree}
+use Rattle.pgs_schema_changes.specs.declared.form.Form.{Form}
+use Rattle.pgs_schema_changes.specs.Unfolded.{Tree, nothing, tree, node_tree, edge_tree, same_form, same_tree}
 use Rattle.pgs_schema_changes.specs.declared.trees.Entry.{Entry}
 use Rattle.pgs_schema_changes.specs.declared.declarations.Declarations.{Declarations}
 use Rattle.pgs_schema_changes.specs.declared.declarations.TypeNumbers.{TypeNumbers}

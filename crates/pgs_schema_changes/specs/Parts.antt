@@ -2,8 +2,8 @@
 use Rattle.std.specs.Prelude.{ℕ, List, [], ◌∷◌}
 use Rattle.pgs_syntax.specs.declared.specification.Leaf.{Leaf}
 use Rattle.pgs_syntax.specs.declared.specification.Spec.{Spec}
-use Rattle.pgs_schema_order.specs.declared.form.Form.TheVariants as forms
-use Rattle.pgs_schema_order.specs.Unfolded.{Tree, nothing, tree, unfolded}
+use Rattle.pgs_schema_changes.specs.declared.form.Form.TheVariants as forms
+use Rattle.pgs_schema_changes.specs.Unfolded.{Tree, nothing, tree, unfolded}
 
 abbrev pub parts_tree : (ℕ → Tree) → List (Spec Leaf) → Tree
 parts_tree names [] = nothing

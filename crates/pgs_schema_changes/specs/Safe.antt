@@ -1,7 +1,7 @@
 -- When a step from one schema to another is safe: no graph has to be looked at.
 use Rattle.std.specs.Prelude.{◌≡◌, Bool, ◌&&◌, ◌||◌, not, map}
 use Rattle.pgs_syntax.specs.declared.resolved.Resolved.{Resolved}
-use Rattle.pgs_schema_order.specs.AsksNoMore.{are_keys_kept, is_kept, is_dropped}
+use Rattle.pgs_schema_changes.specs.AsksNoMore.{are_keys_kept, is_kept, is_dropped}
 use Rattle.pgs_schema_changes.specs.declared.changes.KeyChanges.{KeyChanges}
 
 -- whether the new guard is strict and the old one isn't

@@ -4,7 +4,7 @@ ghost use Rattle.std.specs.Prelude.{◌≡◌};
 ghost use Rattle.std.specs.List.{list_all, zip};
 ghost use Rattle.std.specs.Cmp.Lexicographic.{pointwise};
 ghost use Rattle.pgs_syntax.specs.Valid.{are_one_kind};
-ghost use Rattle.pgs_schema_order.specs.AsksNoMore.{same_node_name, same_edge_name, same_atom, names_alike, same_pattern, patterns_alike};
+ghost use Rattle.pgs_schema_changes.specs.AsksNoMore.{same_node_name, same_edge_name, same_atom, names_alike, same_pattern, patterns_alike};
 ghost use Rattle.pgs_schema_changes.specs.Numbers.{TellsAlike};
 
 use crate::declarations::Declarations;

@@ -1,6 +1,6 @@
 ghost use Rattle.std.specs.Prelude.{◌≡◌, map, IfOk};
 ghost use Rattle.std.specs.List.{list_all};
-ghost use Rattle.pgs_schema_order.specs.AsksNoMore.{is_kept as key_kept, is_dropped as key_dropped};
+ghost use Rattle.pgs_schema_changes.specs.AsksNoMore.{is_kept as key_kept, is_dropped as key_dropped};
 ghost use Rattle.pgs_schema_changes.specs.Numbers.{TellsAlike};
 ghost use Rattle.pgs_schema_changes.specs.Safe.{IsOfKeys, is_safe};
 
@@ -49,8 +49,8 @@ fn dropped_keys(
     Ok(List::from_vec(dropped))
 }
 
-/// What becomes of the keys of the old guard under the new one: a key is kept, or dropped, exactly as `specs/AsksNoMore.antt` of
-/// `pgs_schema_order` says. `Memory` where there was none left.
+/// What becomes of the keys of the old guard under the new one: a key is kept, or dropped, exactly as
+/// `specs/AsksNoMore.antt` says. `Memory` where there was none left.
 pub fn key_changes(alloc: Global, old: &Resolved, new: &Resolved) -> Result<KeyChanges, Memory>
     ensures { IfOk result (IsOfKeys old.now new.now) }
 {

@@ -1,12 +1,12 @@
 ghost use Rattle.std.specs.Prelude.{◌≡◌, ℕ, ◌==◌, length, IfOk};
 ghost use Rattle.pgs_syntax.specs.declared.resolved.Resolved.{Resolved};
-ghost use Rattle.pgs_schema_order.specs.Unfolded.{Tree, tree_below, node_tree_of, node_tree, edge_tree_of};
+ghost use Rattle.pgs_schema_changes.specs.Unfolded.{Tree, tree_below, node_tree_of, node_tree, edge_tree_of};
 ghost use Rattle.pgs_schema_changes.specs.Numbers.{AreNamed, IsNumbered, PutsAll, PutsTypes, Puts, TellsAlike, number_at};
 
+use crate::form::Form;
 use crate::specification::number_of;
 use crate::trees::Trees;
 use pgs_base::Memory;
-use pgs_schema_order::Form;
 use pgs_syntax::{EdgeType, Leaf, NodeType, Resolved};
 use std::alloc::Global;
 

@@ -2,11 +2,11 @@ ghost use Rattle.std.specs.Prelude.{◌≡◌, ◌==◌};
 ghost use Rattle.pgs_base.specs.Value.{kind_rank};
 ghost use Rattle.std.specs.List.{list_all, zip};
 ghost use Rattle.std.specs.Cmp.Lexicographic.{pointwise};
-ghost use Rattle.pgs_schema_order.specs.Unfolded.{same_property, same_braces, same_form};
+ghost use Rattle.pgs_schema_changes.specs.Unfolded.{same_property, same_braces, same_form};
 
+use crate::form::Form;
 use crate::same::same_name;
 use pgs_base::Kind;
-use pgs_schema_order::Form;
 use pgs_syntax::{Braces, Property};
 
 fn same_kind(a: Kind, b: Kind) -> bool

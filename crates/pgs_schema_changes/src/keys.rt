@@ -3,7 +3,7 @@
 ghost use Rattle.std.specs.Prelude.{◌≡◌};
 ghost use Rattle.std.specs.List.{list_all, list_any, zip};
 ghost use Rattle.std.specs.Cmp.Lexicographic.{pointwise};
-ghost use Rattle.pgs_schema_order.specs.AsksNoMore.{same_expr, same_key, keys_alike, counts_no_more, ask_no_more, keeps, is_kept, is_dropped};
+ghost use Rattle.pgs_schema_changes.specs.AsksNoMore.{same_expr, same_key, keys_alike, counts_no_more, ask_no_more, keeps, is_kept, is_dropped};
 ghost use Rattle.pgs_schema_changes.specs.Numbers.{TellsAlike};
 
 use crate::atoms::{patterns_alike, same_pattern};

@@ -1,13 +1,13 @@
 ghost use Rattle.std.specs.Prelude.{ℕ, IfOk};
 ghost use Rattle.pgs_syntax.specs.declared.specification.Spec.{Word};
-ghost use Rattle.pgs_schema_order.specs.Unfolded.{Tree, unfolded};
+ghost use Rattle.pgs_schema_changes.specs.Unfolded.{Tree, unfolded};
 ghost use Rattle.pgs_schema_changes.specs.Numbers.{AreNamed, IsNumbered, Puts};
 ghost use Rattle.pgs_schema_changes.specs.Parts.{parts_tree};
 
 use crate::braces::copy_braces;
+use crate::form::Form;
 use crate::trees::Trees;
 use pgs_base::{Copyable, Memory};
-use pgs_schema_order::Form;
 use pgs_syntax::{Leaf, Spec};
 use std::alloc::Global;
 

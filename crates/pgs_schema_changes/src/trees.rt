@@ -1,11 +1,11 @@
 ghost use Rattle.std.specs.Prelude.{◌≡◌, [], ◌∷◌, ◌++◌, length, IfOk};
 ghost use Rattle.std.specs.List.{position};
-ghost use Rattle.pgs_schema_order.specs.Unfolded.{Tree, tree};
+ghost use Rattle.pgs_schema_changes.specs.Unfolded.{Tree, tree};
 ghost use Rattle.pgs_schema_changes.specs.Numbers.{is_entry, IsNumbered, Means, Puts};
 
+use crate::form::Form;
 use crate::forms::same_form;
 use pgs_base::Memory;
-use pgs_schema_order::Form;
 use std::alloc::Global;
 
 /// A form over two numbers.

@@ -1,5 +1,5 @@
 -- When an index stands for the graph of a guard, and what it says of one element.
-use Rattle.std.proofs.Common.{◌≡◌, ⊎_elim, ℕ, zero, suc, ◌-◌, ◌<◌, ◌≤◌, Bool, true, false, cond, List, [], ◌∷◌, length, filter, Some, None, Ok, refl, sym, ◌∙◌, ap, subst, arith}
+use Rattle.std.proofs.Common.{◌≡◌, ⊎_elim, ℕ, zero, suc, ◌-◌, ◌<◌, ◌≤◌, Bool, true, false, cond, List, [], ◌∷◌, length, filter, Some, None, refl, sym, ◌∙◌, ap, subst, arith}
 use Rattle.std.specs.Prelude.{option_and_then, slice_get, if◌then◌else◌}
 use Rattle.std.specs.List.{list_any, list_all}
 use Rattle.std.proofs.lemmas.Option.{slice_get_cases}
@@ -10,17 +10,15 @@ use Rattle.pgs_base.specs.Graph.{Graph, empty_graph}
 use Rattle.pgs_check.specs.Standing.{index_changed}
 use Rattle.pgs_decide.specs.declared.deciding.Decided.{Decided}
 use Rattle.pgs_graph.specs.declared.delta.Delta.{Delta}
-use Rattle.pgs_graph.specs.declared.operation.Txn.{Txn}
 use Rattle.pgs_graph.specs.Changed.{changed}
 use Rattle.pgs_keyindex.specs.declared.change.KeyChange.{KeyChange}
 use Rattle.pgs_keyindex.specs.Index.{IndexState}
 use Rattle.pgs_keyindex.specs.Rows.{KeyRows, rows_changed, values_at}
 use Rattle.pgs_keyindex.specs.Standing.{StandsFor, exclusive_keys, values_in_scope}
-use Rattle.pgs_store.specs.declared.changing.Ready.{Ready}
-use Rattle.pgs_store.specs.Changing.{IsReadyOf}
-use Rattle.pgs_store.specs.Applies.{decided as decided_on}
+use Rattle.pgs_decide.specs.declared.changing.Ready.{Ready}
+use Rattle.pgs_decide.specs.Changing.{IsReadyOf}
 use Rattle.pgs_store.specs.Explained.{key_values_of}
-use Rattle.pgs_store.specs.State.{GuardState, IsGuarded, IsIndexed}
+use Rattle.pgs_store.specs.State.{IsGuarded, IsIndexed}
 use Rattle.pgs_syntax.specs.declared.key.Key.{Key}
 use Rattle.pgs_syntax.specs.declared.resolved.Resolved.{Resolved}
 use Rattle.pgs_syntax.specs.KeyValues.{starts_at, is_in_scope, key_values}
@@ -72,10 +70,6 @@ pub made_graph : (g prepared next : Graph) (decided : Decided) (ready : Ready) �
 made_graph g prepared next decided ready same done whole =
     done ∙ ap (λ (h : Graph). changed h ready.tables.delta) same ∙ ap (λ (delta : Delta). changed g delta) whole.delta
 
-pub made_accepted : (g prepared next : Graph) (decided : Decided) (ready : Ready) (guard : GuardState) (txn : Txn) → prepared ≡ g → next ≡ changed prepared ready.tables.delta
-    → IsReadyOf decided ready → decided_on guard txn ≡ Ok (changed g decided.delta) → decided_on guard txn ≡ Ok next
-made_accepted g prepared next decided ready guard txn same done whole accepted = accepted ∙ ap Ok (sym (made_graph g prepared next decided ready same done whole))
-
 -- the index that is prepared and committed has the rows that were decided, so that it stands for the changed graph
 pub made_stands : (resolved : Resolved) (g h : Graph) (keys : List Key) (index prepared next : IndexState) (decided : Decided) (ready : Ready) → h ≡ g
     → prepared.exclusive ≡ index.exclusive → prepared.rows ≡ index.rows → next.exclusive ≡ prepared.exclusive → next.rows ≡ rows_changed prepared.rows ready.rows.changes
@@ -105,6 +99,15 @@ made_indexed resolved limits g prepared_graph h index prepared next decided read
   guarded = subst (λ (k : Graph). IsGuarded resolved limits k) (sym (made_graph g prepared_graph h decided ready same done whole)) guarded;
   stands = made_stands resolved (changed g decided.delta) h resolved.guard.keys index prepared next decided ready (made_graph g prepared_graph h decided ready same done whole)
       exclusive rows next_exclusive next_rows whole stands;
+}
+
+-- what was decided, done to both at once
+pub done_indexed : (resolved : Resolved) (limits : Limits) (g h : Graph) (index next : IndexState) (decided : Decided) → h ≡ changed g decided.delta
+    → next.exclusive ≡ index.exclusive → next.rows ≡ rows_changed index.rows decided.changes → IsGuarded resolved limits (changed g decided.delta)
+    → StandsFor resolved (changed g decided.delta) resolved.guard.keys (index_changed index decided.changes) → IsIndexed resolved limits h next
+done_indexed resolved limits g h index next decided done exclusive rows guarded stands = record {
+  guarded = subst (λ (k : Graph). IsGuarded resolved limits k) (sym done) guarded;
+  stands = still_stands resolved (changed g decided.delta) h resolved.guard.keys (index_changed index decided.changes) next done exclusive rows stands;
 }
 
 -- ---- what it says of one element

@@ -1,5 +1,4 @@
 pub mod Applies
-pub mod Changing
 pub mod Checkpoints
 pub mod Costs
 pub mod Evolves

@@ -18,12 +18,11 @@ ghost use Rattle.pgs_store.specs.Stored.{IsBounded, StandsOn, IsAppliedIn};
 ghost use Rattle.pgs_store.specs.World.{StaysBeside, CountsFault};
 ghost use Rattle.pgs_world.specs.Moment.{EachSince};
 
-use crate::changing::{commit, prepare};
 use crate::judging::decision_of;
 use crate::{ApplyFault, Guard, GuardRefusal, Store};
 use pgs_base::{Limits, Memory, Steps};
 use pgs_codec::frame_txn;
-use pgs_decide::Decided;
+use pgs_decide::{Decided, commit, prepare};
 use pgs_graph::Txn;
 use pgs_journal::Journal;
 use pgs_keyindex::KeyIndex;

@@ -11,12 +11,12 @@ ghost use Rattle.pgs_store.specs.Explained.{types_of, key_values_of};
 ghost use Rattle.pgs_decide.specs.Refused.{IsRejected};
 ghost use Rattle.pgs_store.specs.State.{IsGuarded};
 
-use crate::changing::{commit, prepare};
 use crate::explaining::types_of;
 use crate::judging::decision_of;
 use crate::{GuardFault, GuardRefusal};
 use pgs_base::{Elem, Limits, List, Memory, Seed, Steps, TupleSet};
 use pgs_conform::Compiled;
+use pgs_decide::change;
 use pgs_graph::{GraphRead, Txn};
 use pgs_keyindex::KeyIndex;
 use pgs_schema::Schema;
@@ -161,8 +161,7 @@ impl Guard {
             txn,
             steps,
         )?;
-        let ready = prepare(&mut self.graph, &mut self.index, decided)?;
-        commit(&mut self.graph, &mut self.index, ready);
+        change(&mut self.graph, &mut self.index, decided)?;
         self.commits += 1;
         Ok(self.commits)
     }

@@ -10,7 +10,6 @@
 #![tactic(auto)]
 
 mod applying;
-mod changing;
 mod checkpointing;
 mod evolving;
 mod explaining;

@@ -16,9 +16,10 @@ use Rattle.pgs_graph.specs.Changed.{entries_changed, changed, is_sound, after_ch
 use Rattle.pgs_graph.proofs.Deltas.{node_cmp_total, exact_node, ascending_nodes, ascending_changed_nodes, changed_graph, node_after}
 use Rattle.pgs_tables.specs.declared.node_edges.NodeEdges.{NodeEdges}
 use Rattle.pgs_tables.specs.declared.node_edges.NodeTable.{NodeTable}
-use Rattle.pgs_tables.specs.Adjacency.{node_edges, is_touched, touched_edges}
+use Rattle.pgs_tables.specs.Adjacency.{no_edges, node_edges, is_touched, touched_edges}
 use Rattle.pgs_tables.specs.Commits.{row_changed, relinked, rows_put, lists_put}
 use Rattle.pgs_tables.specs.Standing.{graph_of, HasItsEdges}
+use Rattle.pgs_tables.proofs.Ends.{absent_node}
 use Rattle.pgs_tables.proofs.Folded.{fold-here, lookup-listed}
 use Rattle.pgs_tables.proofs.Touched.{untouched, ascending_touched}
 
@@ -42,6 +43,14 @@ no_table (Some t) none = absurd (true≢false (ap is_some none))
 has_new_edges : (edges : NodeEdges) (table : Option NodeTable) → IfSome (relinked edges table) (λ t. t.edges ≡ edges)
 has_new_edges edges None = tt
 has_new_edges edges (Some t) = refl
+
+-- a row after a change has the edges that it had, and a new one none
+keeps_edges : (edges : NodeEdges) (table : Option NodeTable) (new : Option (Option NodeRow)) → IfSome table (λ t. t.edges ≡ edges) → (table ≡ None → edges ≡ no_edges) →
+    IfSome (option_map_or (λ row. row_changed row table) new table) (λ t. t.edges ≡ edges)
+keeps_edges edges table None had had_none = had
+keeps_edges edges table (Some None) had had_none = tt
+keeps_edges edges None (Some (Some row)) had had_none = sym (had_none refl)
+keeps_edges edges (Some t) (Some (Some row)) had had_none = had
 
 module _ (nodes new_nodes : List (NodeId × NodeTable)) (edges new_edges : List (EdgeId × EdgeRow)) (delta : Delta)
     (graph : is_graph (graph_of nodes edges) ≡ true) (sound : is_sound (graph_of nodes edges) delta ≡ true)
@@ -95,10 +104,11 @@ module _ (nodes new_nodes : List (NodeId × NodeTable)) (edges new_edges : List 
             let linked : lookup (is_at (node_cmp q)) new_nodes ≡ relinked (node_edges new q) put = stands ∙ ap (λ l. option_map_or (λ edges. relinked edges put) l put) some in
             subst (λ o. IfSome o (λ (t : NodeTable). t.edges ≡ node_edges new q)) (sym linked) (has_new_edges (node_edges new q) put)
     has_edges had false not_touched none =
-        let same = untouched old delta graph sound q not_touched in
-        let kept : lookup (is_at (node_cmp q)) new_nodes ≡ was =
-        stands ∙ ap (λ l. option_map_or (λ edges. relinked edges put) l put) none ∙ ap (λ o. option_map_or (λ row. row_changed row was) o was) same.0 in
-        subst (λ o. IfSome o (λ (t : NodeTable). t.edges ≡ node_edges new q)) (sym kept) (subst (λ e. IfSome was (λ (t : NodeTable). t.edges ≡ e)) same.1 had)
+        let kept : lookup (is_at (node_cmp q)) new_nodes ≡ put = stands ∙ ap (λ l. option_map_or (λ edges. relinked edges put) l put) none in
+        let had_none : was ≡ None → node_edges old q ≡ no_edges = λ absent. absent_node old q graph (old_row ∙ ap row_of absent) in
+        subst (λ o. IfSome o (λ (t : NodeTable). t.edges ≡ node_edges new q)) (sym kept)
+        (subst (λ e. IfSome put (λ (t : NodeTable). t.edges ≡ e)) (untouched old delta graph sound q not_touched)
+        (keeps_edges (node_edges old q) was (lookup (is_at (node_cmp q)) delta.nodes) had had_none))
 
   -- the graph that the new rows mean
   pub committed_graph : graph_of new_nodes new_edges ≡ new

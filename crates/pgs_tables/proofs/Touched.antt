@@ -5,7 +5,6 @@ use Rattle.std.specs.List.{AllByRecursion, filter, list_any}
 use Rattle.std.specs.List.Sorted.{IsStrictlySortedBy}
 use Rattle.std.specs.Map.{keys_of, lookup}
 use Rattle.std.specs.BTreeMap.{is_at}
-use Rattle.std.proofs.lemmas.Map.Made.{is_some-lookup}
 use Rattle.pgs_base.specs.declared.element.NodeId.{NodeId}
 use Rattle.pgs_base.specs.declared.element.EdgeId.{EdgeId}
 use Rattle.pgs_base.specs.declared.row.NodeRow.{NodeRow}
@@ -17,7 +16,7 @@ use Rattle.pgs_graph.specs.Changed.{changed, is_sound, after_changes}
 use Rattle.pgs_graph.proofs.Deltas.{node_cmp_total, exact_node, edge_cmp_total, ascending_nodes, ascending_edges, ascending_changed_edges, changed_graph, node_after, edge_after}
 use Rattle.pgs_tables.specs.declared.node_edges.NodeEdges.{NodeEdges}
 use Rattle.pgs_tables.specs.Adjacency.{node_edges, is_end_of, ends_here, is_touched, touched_edges}
-use Rattle.pgs_tables.specs.Relists.{leaves_row, relisted_change, relisted_all, kept_at}
+use Rattle.pgs_tables.specs.Relists.{leaves_row, relisted_change, relisted_all}
 use Rattle.pgs_tables.proofs.Ends.{edge_end_there}
 use Rattle.pgs_tables.proofs.Folded.{lookup-listed, all_found, ascending-filter}
 use Rattle.pgs_tables.proofs.Relisted.{current, current-all, some-all, none-all}
@@ -38,9 +37,9 @@ all_mapped : {A B : Type 0} (b : B) (o : Option A) → is_some o ≡ true → op
 all_mapped b None full = absurd (true≢false (sym full))
 all_mapped b (Some a) full = refl
 
-or_false : (a b : Bool) → (a || b) ≡ false → (a ≡ false) × (b ≡ false)
-or_false true b h = absurd (true≢false h)
-or_false false b h = (refl, h)
+none_anyway : (b : Bool) → ◌≡◌ {A = Option NodeEdges} (cond b None None) None
+none_anyway true = refl
+none_anyway false = refl
 
 or_with_false : (b : Bool) → (b || false) ≡ b
 or_with_false true = refl
@@ -83,35 +82,33 @@ module _ (g : Graph) (delta : Delta) (graph : is_graph g ≡ true) (sound : is_s
         by rest false was true is any = ap is_some (sym stays) ∙ edge_end_there (changed g delta) q (changed_graph g delta sound) c.0 c.1 changed_edge is
         by rest false was false is any = rest any
 
-    made_or_kept : (o : Option (Option NodeRow)) → lookup (is_at (node_cmp q)) delta.nodes ≡ o →
-        kept_at g q o (fold (relisted_change (node_edges g q) (leaves_row o) q (edge_at g)) None delta.edges)
-        ≡ cond (is_some o || list_any (ends_here g q) delta.edges) (option_map (λ (row : NodeRow). node_edges (changed g delta) q) (after_changes o (node_at g q))) None
-    made_or_kept None unlisted = by (list_any (ends_here g q) delta.edges) refl
+    -- lists are made exactly where the node is at a changed edge, and it is there after it
+    made_where : (after : Option NodeRow) → (list_any (ends_here g q) delta.edges ≡ true → is_some after ≡ true) →
+        made ≡ cond (is_touched g delta q) (option_map (λ (row : NodeRow). node_edges (changed g delta) q) after) None
+    made_where after there = by (list_any (ends_here g q) delta.edges) refl
       where
-        by : (b : Bool) → list_any (ends_here g q) delta.edges ≡ b → made ≡ cond b (option_map (λ (row : NodeRow). node_edges (changed g delta) q) (node_at g q)) None
-        by true any =
-            let there = still_there unlisted delta.edges (all_found edge_cmp edge_cmp_total delta.edges (ascending_changed_edges g delta sound)) any in
-            some_of made (node_edges g q) (is_made ∙ any) ∙ ap Some current_after ∙ sym (all_mapped (node_edges (changed g delta) q) (node_at g q) there)
+        by : (b : Bool) → list_any (ends_here g q) delta.edges ≡ b → made ≡ cond b (option_map (λ (row : NodeRow). node_edges (changed g delta) q) after) None
+        by true any = some_of made (node_edges g q) (is_made ∙ any) ∙ ap Some current_after ∙ sym (all_mapped (node_edges (changed g delta) q) after (there any))
         by false none = none_of made (is_made ∙ none)
-    made_or_kept (Some None) removed = none-all (node_edges g q) q (edge_at g) delta.edges None
-    made_or_kept (Some (Some row)) put = ap Some current_after
+
+    made_or_none : (o : Option (Option NodeRow)) → lookup (is_at (node_cmp q)) delta.nodes ≡ o →
+        fold (relisted_change (node_edges g q) (leaves_row o) q (edge_at g)) None delta.edges
+        ≡ cond (is_touched g delta q) (option_map (λ (row : NodeRow). node_edges (changed g delta) q) (after_changes o (node_at g q))) None
+    made_or_none None unlisted =
+        made_where (node_at g q) (still_there unlisted delta.edges (all_found edge_cmp edge_cmp_total delta.edges (ascending_changed_edges g delta sound)))
+    made_or_none (Some None) removed = none-all (node_edges g q) q (edge_at g) delta.edges None ∙ sym (none_anyway (is_touched g delta q))
+    made_or_none (Some (Some row)) put = made_where (Some row) (λ any. refl)
 
     -- the lists made for a node are those that the delta's touched nodes have
-    pub relisted_is : kept_at g q (lookup (is_at (node_cmp q)) delta.nodes) (relisted_all g delta.nodes q delta.edges None) ≡ lookup (is_at (node_cmp q)) (touched_edges g delta)
+    pub relisted_is : relisted_all g delta.nodes q delta.edges None ≡ lookup (is_at (node_cmp q)) (touched_edges g delta)
     relisted_is =
-        made_or_kept (lookup (is_at (node_cmp q)) delta.nodes) refl
-        ∙ ap (λ b. cond (b || list_any (ends_here g q) delta.edges) (option_map (λ (row : NodeRow). node_edges (changed g delta) q) (after_changes (lookup (is_at (node_cmp q)) delta.nodes) (node_at g q))) None)
-        (is_some-lookup (is_at (node_cmp q)) delta.nodes)
+        made_or_none (lookup (is_at (node_cmp q)) delta.nodes) refl
         ∙ ap (λ o. cond (is_touched g delta q) (option_map (λ (row : NodeRow). node_edges (changed g delta) q) o) None) (sym (node_after g delta q graph sound))
         ∙ sym (lookup-listed exact_node (is_touched g delta) (node_edges (changed g delta)) q (changed g delta).nodes)
 
-    -- a node that the delta doesn't touch isn't in it, and keeps its edges
-    pub untouched : is_touched g delta q ≡ false → (lookup (is_at (node_cmp q)) delta.nodes ≡ None) × (node_edges g q ≡ node_edges (changed g delta) q)
-    untouched not_touched =
-        let parts = or_false (list_any (is_at (node_cmp q)) (keys_of delta.nodes)) (list_any (ends_here g q) delta.edges) not_touched in (
-          none_of _ (is_some-lookup (is_at (node_cmp q)) delta.nodes ∙ parts.0),
-          ap (current (node_edges g q) q) (sym (none_of made (is_made ∙ parts.1))) ∙ current_after,
-        )
+    -- a node whose edges the delta doesn't touch keeps them
+    pub untouched : is_touched g delta q ≡ false → node_edges g q ≡ node_edges (changed g delta) q
+    untouched not_touched = ap (current (node_edges g q) q) (sym (none_of made (is_made ∙ not_touched))) ∙ current_after
 
   pub ascending_touched : IsStrictlySortedBy node_cmp (keys_of (touched_edges g delta))
   ascending_touched =
@@ -121,6 +118,6 @@ module _ (g : Graph) (delta : Delta) (graph : is_graph g ≡ true) (sound : is_s
 
   -- lists that ascend and are those of each node are the lists of the touched nodes
   pub all_relisted : (lists : List (NodeId × NodeEdges)) → IsStrictlySortedBy node_cmp (keys_of lists) →
-      ((q : NodeId) → lookup (is_at (node_cmp q)) lists ≡ kept_at g q (lookup (is_at (node_cmp q)) delta.nodes) (relisted_all g delta.nodes q delta.edges None)) →
+      ((q : NodeId) → lookup (is_at (node_cmp q)) lists ≡ relisted_all g delta.nodes q delta.edges None) →
       lists ≡ touched_edges g delta
   all_relisted lists ascending each = same_entries node_cmp_total exact_node lists (touched_edges g delta) ascending ascending_touched (λ q. each q ∙ relisted_is q)

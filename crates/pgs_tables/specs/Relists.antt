@@ -50,13 +50,3 @@ module _ (base : NodeEdges) (left : Bool) (q : NodeId) where
 abbrev pub relisted_all : Graph → List (NodeId × Option NodeRow) → NodeId → List (EdgeId × Option EdgeRow) → Option NodeEdges →
     Option NodeEdges
 relisted_all g nodes q changes made = fold (relisted_change (node_edges g q) (stays nodes q) q (edge_at g)) made changes
-
--- the edges at a node that a delta puts in: those that are made already, and else those that it had
-abbrev pub kept_at : Graph → NodeId → Option (Option NodeRow) → Option NodeEdges → Option NodeEdges
-kept_at g q None made = made
-kept_at g q (Some None) made = made
-kept_at g q (Some (Some row)) made = Some (unwrap_or made (node_edges g q))
-
--- the same at a node `id` that is put in
-abbrev pub kept_here : Graph → NodeId → NodeId → Option NodeEdges → Option NodeEdges
-kept_here g q id made = cond (is_at (node_cmp id) q) (Some (unwrap_or made (node_edges g q))) made

@@ -61,11 +61,3 @@ fn edited_list(alloc: Global, list: &EdgeList, adds: bool, edge: EdgeId) -> Resu
         list.without(alloc, edge)
     }
 }
-
-impl Copyable for NodeEdges {
-    fn copy(&self, alloc: Global) -> Result<NodeEdges, Memory> {
-        let outgoing = self.outgoing.copy(alloc)?;
-        let incoming = self.incoming.copy(alloc)?;
-        Ok(NodeEdges { outgoing, incoming })
-    }
-}

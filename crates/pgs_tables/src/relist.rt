@@ -1,4 +1,4 @@
-//! The new lists of edges of the nodes that a delta touches, in one pass over the delta.
+//! The new lists of edges of the nodes at the edges that a delta changes, in one pass over these.
 
 ghost use Rattle.std.specs.Prelude.{◌≡◌, ◌+◌, ◌≤◌, true, None, Some, length, IfOk, OnOk, [], ◌∷◌};
 ghost use Rattle.std.specs.Option.{option_copied, option_map};
@@ -12,12 +12,12 @@ ghost use Rattle.pgs_base.specs.Graph.{node_cmp, node_at};
 ghost use Rattle.pgs_graph.specs.Changed.{is_sound};
 ghost use Rattle.pgs_tables.specs.Slots.{has_slot};
 ghost use Rattle.pgs_tables.specs.Adjacency.{node_edges, touched_edges};
-ghost use Rattle.pgs_tables.specs.Relists.{edges_edited, stays, relisted as relisted_at, relisted_ends, relisted_all, kept_at, kept_here};
+ghost use Rattle.pgs_tables.specs.Relists.{edges_edited, stays, relisted as relisted_at, relisted_ends, relisted_all};
 ghost use Rattle.std.specs.Option.{unwrap_or};
 
 use crate::edit::{Edit, Side};
 use crate::{NodeEdges, Number, Numbered, Tables};
-use pgs_base::{Copyable, EdgeId, EdgeRow, List, Memory, NodeId, NodeRow};
+use pgs_base::{EdgeId, EdgeRow, List, Memory, NodeId, NodeRow};
 use pgs_base_keyed::Keyed;
 use pgs_graph::Delta;
 use std::alloc::Global;
@@ -68,17 +68,16 @@ fn list_of(
 }
 
 impl Tables {
-    /// The edges at a node, after a sound delta, of each node that is there then and that the delta touches. `Memory` where none was
-    /// left.
+    /// The edges after a sound delta of each node that is there then and at which it changes an edge. `Memory` where none was left.
     pub(crate) fn relisted_edges(&self, delta: &Delta) -> Result<List<(NodeId, NodeEdges)>, Memory>
         requires { is_sound self.now.graph delta.now ≡ true }
         ensures { IfOk result (λ lists. lists ≡ touched_edges self.now.graph delta.now) }
     {
         let nodes = delta.nodes.as_slice();
-        let changes = delta.nodes.len().saturating_add(delta.edges.len());
-        let mut touched = Keyed::new(self.alloc, changes);
+        // A changed edge has two ends, and seldom others than before.
+        let ends = delta.edges.len().saturating_mul(2);
+        let mut touched = Keyed::new(self.alloc, ends);
         self.relist_edges(&mut touched, nodes, delta.edges.as_slice())?;
-        self.keep_nodes(&mut touched, nodes)?;
         list_of(self.alloc, touched)
     }
 
@@ -191,39 +190,6 @@ impl Tables {
     {
         for change in changes {
             self.relist_change(touched, nodes, change)?;
-        }
-        Ok(())
-    }
-
-    // The edges of a node that the delta puts in: those that are made already, and else those that it had.
-    fn keep(&self, touched: &mut Keyed<NodeId, NodeEdges>, id: NodeId) -> Result<(), Memory>
-        ensures { OnOk result ((q : NodeId) → lookup (is_at (node_cmp q)) touched.new
-            ≡ kept_here self.now.graph q id (lookup (is_at (node_cmp q)) touched.old)) }
-    {
-        if touched.get(&id).is_some() {
-            return Ok(());
-        }
-        let edges = match self.edges_at(id) {
-            Some(edges) => edges.copy(self.alloc)?,
-            None => NodeEdges::new(self.alloc),
-        };
-        touched.set(id, edges)?;
-        Ok(())
-    }
-
-    fn keep_nodes(
-        &self,
-        touched: &mut Keyed<NodeId, NodeEdges>,
-        nodes: &[(NodeId, Option<NodeRow>)],
-    ) -> Result<(), Memory>
-        requires { IsStrictlySortedBy node_cmp (keys_of nodes.now) }
-        ensures { OnOk result ((q : NodeId) → lookup (is_at (node_cmp q)) touched.new
-            ≡ kept_at self.now.graph q (lookup (is_at (node_cmp q)) nodes.now) (lookup (is_at (node_cmp q)) touched.old)) }
-    {
-        for change in nodes {
-            if change.1.is_some() {
-                self.keep(touched, change.0)?;
-            }
         }
         Ok(())
     }

@@ -10,19 +10,22 @@ use crate::block::{search_block, spliced_block};
 use crate::edits::{chunks_of, with_each, without_each};
 use crate::short::{MOST, Short, short_of, spliced_short};
 use crate::{Chunks, Long};
-use pgs_base::{EdgeId, Memory};
+use pgs_base::{Boxed, EdgeId, Memory};
 use std::alloc::Global;
 use std::marker::Model;
 
 // Up to so many ids stand in one block, which is smaller than chunks and quick to copy.
 const FEW: usize = 64;
 
+// Each node has two lists. The length of a short one stands beside the tag, and a long one in a box, so no list is larger than a block.
+const _: () = prove!(size_of::<Form>() == 32);
+
 /// At most three ids in the list itself, few in a block of their own, and many in a long list.
 #[derive(Drop)]
 enum Form {
-    Short(Short),
+    Short { len: u32, ids: [EdgeId; MOST] },
     Few(Vec<EdgeId>),
-    Many(Long),
+    Many(Boxed<Long>),
 }
 
 /// Any list of ids, of which up to three take no memory, up to FEW one small block, and more a long list. Contracts see the list.
@@ -48,18 +51,17 @@ impl Ids {
     pub fn new() -> Ids
         ensures { result ≡ [] }
     {
-        Ids {
-            form: Form::Short(Short::new()),
-        }
+        Ids::from_short(Short::new())
     }
 
     /// The list of a slice's ids.
     pub fn from_slice(alloc: Global, ids: &[EdgeId]) -> Result<Ids, Memory>
         ensures { IfOk result (λ list. list ≡ ids.now) }
     {
-        let form = if ids.len() <= MOST {
-            Form::Short(short_of(ids))
-        } else if ids.len() <= FEW {
+        if ids.len() <= MOST {
+            return Ok(Ids::from_short(short_of(ids)));
+        }
+        let form = if ids.len() <= FEW {
             Form::Few(Vec::from_slice(alloc, ids)?)
         } else {
             Form::Many(long_of(alloc, ids)?)
@@ -67,13 +69,24 @@ impl Ids {
         Ok(Ids { form })
     }
 
+    // The list of at most three ids.
+    fn from_short(short: Short) -> Ids
+        ensures { result ≡ short }
+    {
+        let (len, ids) = short.into_parts();
+        Ids {
+            form: Form::Short { len, ids },
+        }
+    }
+
     // The list of a block's ids.
     fn from_block(alloc: Global, block: Vec<EdgeId>) -> Result<Ids, Memory>
         ensures { IfOk result (λ list. list ≡ block.items) }
     {
-        let form = if block.len() <= MOST {
-            Form::Short(short_of(block.as_slice()))
-        } else if block.len() <= FEW {
+        if block.len() <= MOST {
+            return Ok(Ids::from_short(short_of(block.as_slice())));
+        }
+        let form = if block.len() <= FEW {
             Form::Few(block)
         } else {
             Form::Many(long_of(alloc, block.as_slice())?)
@@ -90,6 +103,7 @@ impl Ids {
             return Ids::from_block(alloc, block);
         }
         let long = Long::from_chunks(alloc, chunks)?;
+        let long = Boxed::new(alloc, long)?;
         Ok(Ids {
             form: Form::Many(long),
         })
@@ -103,6 +117,7 @@ impl Ids {
             let block = long.to_block(alloc)?;
             return Ids::from_block(alloc, block);
         }
+        let long = Boxed::new(alloc, long)?;
         Ok(Ids {
             form: Form::Many(long),
         })
@@ -113,9 +128,9 @@ impl Ids {
         ensures { result ≡ length self.now }
     {
         match &self.form {
-            Form::Short(ids) => ids.as_slice().len(),
+            Form::Short { len, ids } => ids[..*len as usize].len(),
             Form::Few(ids) => ids.len(),
-            Form::Many(long) => long.len(),
+            Form::Many(long) => long.get().len(),
         }
     }
 
@@ -124,9 +139,9 @@ impl Ids {
         ensures { result ≡ slice_get self.now place }
     {
         match &self.form {
-            Form::Short(ids) => ids.as_slice().get(place).copied(),
+            Form::Short { len, ids } => ids[..*len as usize].get(place).copied(),
             Form::Few(ids) => ids.as_slice().get(place).copied(),
-            Form::Many(long) => long.at(place),
+            Form::Many(long) => long.get().at(place),
         }
     }
 
@@ -138,9 +153,9 @@ impl Ids {
         ensures small { IfOk result (λ place. place + 1 < 2 ^ 64) }
     {
         match &self.form {
-            Form::Short(ids) => search_block(ids.as_slice(), id),
+            Form::Short { len, ids } => search_block(&ids[..*len as usize], id),
             Form::Few(ids) => search_block(ids.as_slice(), id),
-            Form::Many(long) => long.search(id),
+            Form::Many(long) => long.get().search(id),
         }
     }
 
@@ -149,9 +164,9 @@ impl Ids {
         ensures { IfOk result (λ chunks. chunks ≡ self.now) }
     {
         match &self.form {
-            Form::Short(ids) => chunks_of(alloc, ids.as_slice()),
+            Form::Short { len, ids } => chunks_of(alloc, &ids[..*len as usize]),
             Form::Few(block) => chunks_of(alloc, block.as_slice()),
-            Form::Many(long) => long.to_chunks(alloc),
+            Form::Many(long) => long.get().to_chunks(alloc),
         }
     }
 
@@ -165,10 +180,12 @@ impl Ids {
         ensures { IfOk result (λ list. list ≡ take range.0 self.now ++ (ids.now ++ drop range.1 self.now)) }
     {
         match &self.form {
-            Form::Short(block) => spliced_few(alloc, block.as_slice(), range, ids),
+            Form::Short { len, ids: block } => {
+                spliced_few(alloc, &block[..*len as usize], range, ids)
+            }
             Form::Few(block) => spliced_few(alloc, block.as_slice(), range, ids),
             Form::Many(long) => {
-                let spliced = long.spliced(alloc, range, ids)?;
+                let spliced = long.get().spliced(alloc, range, ids)?;
                 Ids::from_long(alloc, spliced)
             }
         }
@@ -178,9 +195,12 @@ impl Ids {
     pub fn copy(&self, alloc: Global) -> Result<Ids, Memory>
         ensures { IfOk result (λ list. list ≡ self.now) }
     {
-        if let Form::Short(short) = &self.form {
+        if let Form::Short { len, ids } = &self.form {
             return Ok(Ids {
-                form: Form::Short(short.copy()),
+                form: Form::Short {
+                    len: *len,
+                    ids: *ids,
+                },
             });
         }
         let last = self.len();
@@ -209,11 +229,12 @@ impl Ids {
 }
 
 // The long list of a slice's ids.
-fn long_of(alloc: Global, ids: &[EdgeId]) -> Result<Long, Memory>
+fn long_of(alloc: Global, ids: &[EdgeId]) -> Result<Boxed<Long>, Memory>
     ensures { IfOk result (λ long. long ≡ ids.now) }
 {
     let chunks = chunks_of(alloc, ids)?;
-    Long::from_chunks(alloc, chunks)
+    let long = Long::from_chunks(alloc, chunks)?;
+    Boxed::new(alloc, long)
 }
 
 // The list of a few ids with others in the place of a range.
@@ -226,9 +247,7 @@ fn spliced_few(
     ensures { IfOk result (λ list. list ≡ take range.0 block.now ++ (ids.now ++ drop range.1 block.now)) }
 {
     if let Some(short) = spliced_short(block, range, ids) {
-        return Ok(Ids {
-            form: Form::Short(short),
-        });
+        return Ok(Ids::from_short(short));
     }
     let spliced = spliced_block(alloc, block, range, ids)?;
     Ids::from_block(alloc, spliced)

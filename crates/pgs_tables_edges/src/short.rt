@@ -3,14 +3,14 @@ ghost use Rattle.std.specs.Prelude.{◌≡◌, ◌<◌, ◌≤◌, ◌+◌, ◌+
 use pgs_base::EdgeId;
 use std::marker::Model;
 
-/// The most ids that stand in the list itself: with them it is as large as a long list.
+/// The most ids that stand in the list itself: with them it is as large as a block.
 pub const MOST: usize = 3;
 
-/// At most three ids, which take no memory beside the list. Contracts see the list of them.
+/// At most three ids, which take no memory beside the list, while they are gathered. Contracts see the list of them.
 #[derive(Drop)]
 pub struct Short {
+    len: u32,
     ids: [EdgeId; MOST],
-    len: usize,
 }
 
 impl Model for Short {
@@ -30,27 +30,18 @@ impl Short {
         ensures { result ≡ [] }
     {
         Short {
-            ids: [EdgeId(0); MOST],
             len: 0,
+            ids: [EdgeId(0); MOST],
         }
     }
 
-    /// The ids, in order.
-    pub fn as_slice(&self) -> &[EdgeId]
-        ensures value { result.now ≡ self.now }
-        ensures few { length self.now ≤ 3 }
+    /// How many ids there are, and an array that begins with them.
+    pub fn into_parts(self) -> (u32, [EdgeId; MOST])
+        ensures value { take result.0 result.1 ≡ self }
+        ensures few { result.0 ≤ 3 }
     {
-        &self.ids[..self.len]
-    }
-
-    /// An equal list.
-    pub fn copy(&self) -> Short
-        ensures { result ≡ self.now }
-    {
-        Short {
-            ids: self.ids,
-            len: self.len,
-        }
+        let Short { len, ids } = self;
+        (len, ids)
     }
 
     // Puts an id last.
@@ -58,7 +49,7 @@ impl Short {
         requires { length self.old < 3 }
         ensures { self.new ≡ self.old ++ id ∷ [] }
     {
-        self.ids[self.len] = id;
+        self.ids[self.len as usize] = id;
         self.len += 1;
     }
 

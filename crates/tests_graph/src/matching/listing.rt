@@ -284,7 +284,7 @@ impl Listing<'_> {
 
     // Whether expressions give this tuple under an assignment.
     fn gives(&self, number: u64, exprs: &[Expr], tuple: &Tuple) -> bool {
-        let parts = tuple.parts().as_slice();
+        let parts = tuple.parts();
         for (expr, part) in exprs.iter().zip(parts) {
             if !self.gives_part(number, expr, part) {
                 return false;

@@ -1,86 +1,38 @@
 use Rattle.std.proofs.Common.{◌∙◌, ◌+◌, length, filter, sym, ap, subst, arith}
 use Rattle.std.specs.List.{Contains, sum_by}
 use Rattle.std.proofs.lemmas.Bool.{and_parts}
-use Rattle.std.proofs.lemmas.Grind.{common_steps}
+use Rattle.std.proofs.lemmas.Result.{IfOk-weaker, on_ok_weaker}
 use Rattle.pgs_base.specs.declared.element.Elem.{Elem}
 use Rattle.pgs_syntax.specs.KeyValues.{is_in_scope}
-use Rattle.pgs_match.specs.declared.stand.Stand.{Stand}
-use Rattle.pgs_match.specs.Learned.{HasSearched, unlearned}
+use Rattle.pgs_match.specs.Learned.{HasSearched}
 use Rattle.pgs_match.specs.Planned.{most_edges}
 use Rattle.pgs_match.specs.Spread.{elem_degree}
-use Rattle.pgs_match.proofs.Along.{take_whole}
-use Rattle.pgs_match.proofs.Learning.{unlearned_most, one_more}
 use Rattle.pgs_match.proofs.Rates.{searched}
 use Rattle.pgs_match.proofs.Scopes.{kind_is_scope}
 use Rattle.pgs_match.proofs.calls.each_x.Goals as goal
-use Rattle.pgs_match.proofs.calls.each_x.Goals.{then-found+in_ok-push, else-found}
 
 pub returns-in_err-elements-clause-cost : goal.returns-in_err-elements-clause-cost
 returns-in_err-elements-clause-cost g c = λ most within.
     searched _ 0 most (most_edges c.args.key.now) c.args.steps.now c.each_element.new.steps c.each_element.new.steps (omega arith) c.each_element.ensures.cost (omega arith)
 
-pub returns-in_err-found-clause-cost : goal.returns-in_err-found-clause-cost
-returns-in_err-found-clause-cost g c = λ most within.
-    let same = ap length (c.as_slice-elems.ensures ∙ c.in_ok-elements.ensures.elems) in
-    let step = c.in_scope_learned.ensures.cost most (λ id near. within id) in
-    let before = c.loop-elem.invariant.cost most within in
-    searched _ (c.loop-elem.elem-index + 1) most (most_edges c.args.key.now) c.args.steps.now c.each_element.new.steps c.in_scope_learned.new.steps
-    (omega (arith, c.loop-elem-test.true)) c.each_element.ensures.cost (omega arith)
-
-pub returns-in_err-push-clause-cost : goal.returns-in_err-push-clause-cost
-returns-in_err-push-clause-cost g c = λ most within.
-    let same = ap length (c.as_slice-elems.ensures ∙ c.in_ok-elements.ensures.elems) in
-    let step = c.in_scope_learned.ensures.cost most (λ id near. within id) in
-    let before = c.loop-elem.invariant.cost most within in
-    searched _ (c.loop-elem.elem-index + 1) most (most_edges c.args.key.now) c.args.steps.now c.each_element.new.steps c.in_scope_learned.new.steps
-    (omega (arith, c.loop-elem-test.true)) c.each_element.ensures.cost (omega arith)
-
-pub loop-elem-preserved : goal.loop-elem-preserved
-loop-elem-preserved g c = record {
-  so_far = elim c.if-found.branch [ then-found+in_ok-push w ↦ grind (arith, common_steps) | else-found w ↦ grind (arith, common_steps) ];
-  learned = c.in_scope_learned.ensures.learned;
-  no_step_back = omega (arith, c.in_scope_learned.ensures.no_step_back, c.loop-elem.invariant.no_step_back);
-  cost = λ most within.
-      let step = c.in_scope_learned.ensures.cost most (λ id near. within id) in
-      let before = c.loop-elem.invariant.cost most within in
-      omega arith;
-  once = λ acyclic pairs all.
-      let graph = g.G.GraphRead.meaning c.args.graph.now in
-      one_more graph c.as_slice-elems.result.now c.loop-elem.elem-index c.loop-elem-test.true _ c.each_element.new.steps c.loop-elem.steps c.in_scope_learned.new.steps
-      (unlearned graph c.loop-elem.learned pairs) (unlearned graph c.in_scope_learned.new.learned pairs) (sum_by (λ (stand : Stand). elem_degree graph stand.elem + 2) pairs)
-      (c.loop-elem.invariant.once acyclic pairs all) (λ listed. c.in_ok-found.ensures.once acyclic pairs (all _ listed));
-}
-
 pub returns-clause-scope : goal.returns-clause-scope
 returns-clause-scope g c =
     let graph = g.G.GraphRead.meaning c.args.graph.now in
     let p = is_in_scope c.args.compiled.now graph c.args.key.now in
-    c.from_vec.ensures ∙ c.loop-elem.invariant.so_far
-    ∙ ap (filter p) (take_whole c.as_slice-elems.result.now c.loop-elem.elem-index c.loop-elem-test.false ∙ c.as_slice-elems.ensures ∙ c.in_ok-elements.ensures.elems)
-    ∙ kind_is_scope c.args.compiled.now graph c.args.key.now (and_parts _ _ (and_parts _ _ c.requires).0).0
+    IfOk-weaker c.scope_among.result _ _
+    (λ scope same. same ∙ ap (filter p) (c.as_slice.ensures ∙ c.in_ok-elements.ensures.elems) ∙ kind_is_scope c.args.compiled.now graph c.args.key.now (and_parts _ _ (and_parts _ _ c.requires).0).0)
+    c.scope_among.ensures.among
 
 pub returns-clause-cost : goal.returns-clause-cost
 returns-clause-cost g c = λ most within.
-    let same = ap length (c.as_slice-elems.ensures ∙ c.in_ok-elements.ensures.elems) in
-    searched _ c.loop-elem.elem-index most (most_edges c.args.key.now) c.args.steps.now c.each_element.new.steps c.loop-elem.steps
-    (omega (arith, c.loop-elem.auto.elem-index-end)) c.each_element.ensures.cost (c.loop-elem.invariant.cost most within)
-
-pub loop-elem-init : goal.loop-elem-init
-loop-elem-init g c =
-    let graph = g.G.GraphRead.meaning c.args.graph.now in
-    record {
-      so_far = c.new-scope.ensures.items;
-      learned = c.new-learned.ensures c.args.compiled.now graph c.args.key.now;
-      no_step_back = c.each_element.ensures.no_step_back;
-      cost = λ most within. omega arith;
-      once = λ acyclic pairs all. let less = unlearned_most graph c.new-learned.result pairs in omega (arith, less);
-    }
+    let same = ap length (c.as_slice.ensures ∙ c.in_ok-elements.ensures.elems) in
+    searched _ (length c.as_slice.result.now) most (most_edges c.args.key.now) c.args.steps.now c.each_element.new.steps c.scope_among.new.steps
+    (omega (arith, same)) c.each_element.ensures.cost (c.scope_among.ensures.cost most within)
 
 pub returns-clause-once : goal.returns-clause-once
 returns-clause-once g c = λ acyclic pairs all.
     let graph = g.G.GraphRead.meaning c.args.graph.now in
-    let same = c.as_slice-elems.ensures ∙ c.in_ok-elements.ensures.elems in
+    let same = c.as_slice.ensures ∙ c.in_ok-elements.ensures.elems in
     let each = subst (λ elems. (elem : Elem) → Contains elems elem → HasSearched c.args.compiled.now graph c.args.key.now.scope elem pairs) (sym same) all in
-    let whole = ap (sum_by (λ (elem : Elem). elem_degree graph elem + 2)) (take_whole c.as_slice-elems.result.now c.loop-elem.elem-index c.loop-elem-test.false ∙ same) in
-    let once = c.loop-elem.invariant.once acyclic pairs each in
-    omega (arith, whole, once, c.each_element.ensures.cost)
+    let whole = ap (sum_by (λ (elem : Elem). elem_degree graph elem + 2)) same in
+    on_ok_weaker c.scope_among.result (λ once. omega (arith, whole, once, c.each_element.ensures.cost)) (c.scope_among.ensures.once acyclic pairs each)

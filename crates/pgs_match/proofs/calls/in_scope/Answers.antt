@@ -7,6 +7,7 @@ use Rattle.pgs_match.specs.Plans.{is_plan}
 use Rattle.pgs_match.proofs.Acyclic.{plan_is_tree}
 use Rattle.pgs_match.proofs.Scopes.{pattern_has, side_edges}
 use Rattle.pgs_match.proofs.Values.{scope_valid}
+use Rattle.pgs_match.proofs.Typed.{is_valid, has_x, names}
 use Rattle.pgs_match.proofs.calls.in_scope.Goals as goal
 
 pub has_match-requires-clause-plan : goal.has_match-requires-clause-plan
@@ -31,3 +32,12 @@ returns-clause-adds g c = λ acyclic.
       subst (λ p. c.has_match.new.steps ≤ c.args.steps.now + 80 * walked_from c.args.compiled.now (g.G.GraphRead.meaning c.args.graph.now) p plan 0 c.args.elem) same
           (c.has_match.ensures.adds (subst (λ p. is_tree p.atoms plan ≡ true) (sym same) tree)),
     )
+
+pub has_match-requires-clause-valid : goal.has_match-requires-clause-valid
+has_match-requires-clause-valid g c = is_valid Scope c.args.key.now c.pattern.result.now c.pattern.ensures.pattern c.pattern.ensures.valid
+
+pub has_match-requires-clause-names : goal.has_match-requires-clause-names
+has_match-requires-clause-names g c = names c.args.compiled.now Scope c.args.key.now c.pattern.result.now c.pattern.ensures.pattern c.requires
+
+pub has_match-requires-clause-in_range : goal.has_match-requires-clause-in_range
+has_match-requires-clause-in_range g c = has_x Scope c.args.key.now c.pattern.result.now c.pattern.ensures.pattern c.pattern.ensures.valid

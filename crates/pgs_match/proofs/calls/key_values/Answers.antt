@@ -1,7 +1,7 @@
-use Rattle.std.proofs.Common.{◌≡◌, ◌+◌, ◌*◌, ◌≤◌, true, ◌||◌, ◌==◌, [], length, map, nat_lt, sym, ap, subst, ◌∙◌}
+use Rattle.std.proofs.Common.{◌≡◌, ◌+◌, ◌*◌, ◌≤◌, true, ◌||◌, ◌==◌, List, [], length, map, nat_lt, sym, ap, subst, ◌∙◌}
 use Rattle.std.specs.Option.{option_map_or}
 use Rattle.std.specs.List.{list_all}
-use Rattle.std.proofs.lemmas.Bool.{and_parts}
+use Rattle.std.proofs.lemmas.Bool.{and_parts, leb-true}
 use Rattle.pgs_syntax.specs.declared.pattern.Expr.{Expr}
 use Rattle.pgs_syntax.specs.KeyValues.{key_values}
 use Rattle.pgs_syntax.specs.Valid.{read_var, edge_count}
@@ -16,6 +16,7 @@ use Rattle.pgs_match.specs.Tests.{admitted}
 use Rattle.pgs_match.proofs.Acyclic.{plan_is_tree}
 use Rattle.pgs_match.proofs.Values.{descriptor_valid, gathered_are_values}
 use Rattle.pgs_match.proofs.Scopes.{ok_same, some_variable, side_edges}
+use Rattle.pgs_match.proofs.Typed.{is_valid, has_x, names}
 use Rattle.pgs_match.proofs.calls.key_values.Goals as goal
 
 pub tuples-requires-clause-plan : goal.tuples-requires-clause-plan
@@ -97,3 +98,17 @@ returns-clause-once g c = λ acyclic var only pairs searched.
     c.tuples.ensures.once (subst (λ p. is_tree p.atoms plan ≡ true) (sym c.pattern.ensures.pattern) tree) var
     (subst (λ exprs. list_all (λ v. v == 0 || v == var) (map read_var exprs) ≡ true) (sym (c.as_slice-exprs.ensures ∙ ap (λ k. k.exprs) c.key.ensures)) only) pairs searched.0
     (subst (λ p. IsClosed c.args.compiled.now graph p.atoms pairs plan) (sym c.pattern.ensures.pattern) (searched.1 plan c.values.ensures.0))
+
+pub tuples-requires-clause-valid : goal.tuples-requires-clause-valid
+tuples-requires-clause-valid g c = is_valid Descriptor c.args.key.now c.pattern.result.now c.pattern.ensures.pattern c.pattern.ensures.valid
+
+pub tuples-requires-clause-names : goal.tuples-requires-clause-names
+tuples-requires-clause-names g c = names c.args.compiled.now Descriptor c.args.key.now c.pattern.result.now c.pattern.ensures.pattern c.requires
+
+pub tuples-requires-clause-in_range : goal.tuples-requires-clause-in_range
+tuples-requires-clause-in_range g c = has_x Descriptor c.args.key.now c.pattern.result.now c.pattern.ensures.pattern c.pattern.ensures.valid
+
+pub tuples-requires-clause-few_exprs : goal.tuples-requires-clause-few_exprs
+tuples-requires-clause-few_exprs g c =
+    subst (λ (exprs : List Expr). length exprs ≤ 16) (sym (c.as_slice-exprs.ensures ∙ ap (λ k. k.exprs) c.key.ensures))
+    (leb-true (length c.args.key.now.exprs) 16 (and_parts _ _ (and_parts _ _ c.pattern.ensures.valid).0).1)

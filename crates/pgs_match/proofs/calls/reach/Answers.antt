@@ -14,6 +14,7 @@ use Rattle.pgs_match.proofs.Acyclic.{plan_is_tree}
 use Rattle.pgs_match.proofs.Firsts.{firsts_are_reached, firsts_few}
 use Rattle.pgs_match.proofs.Scopes.{ok_same, ok_fewer, side_edges, side_valid}
 use Rattle.pgs_match.proofs.ToOne.{on_any}
+use Rattle.pgs_match.proofs.Typed.{names}
 use Rattle.pgs_match.proofs.calls.reach.Goals as goal
 
 pub tuples-requires-clause-valid : goal.tuples-requires-clause-valid
@@ -88,3 +89,9 @@ returns-clause-once g c = λ acyclic pairs searched.
     on_any c.first_elems.result (c.tuples.new.steps ≤ c.args.steps.now + 1400 * sum_by (λ (stand : Stand). elem_degree graph stand.elem + 2) pairs)
     (c.in_ok-tuples.ensures.once (subst (λ p. is_tree p.atoms plan ≡ true) (sym c.pattern.ensures.pattern) tree) 0 (and_from _ _ (or_right (0 == c.args.var) _ refl) refl) pairs searched.0
     (subst (λ p. IsClosed c.args.compiled.now graph p.atoms pairs plan) (sym c.pattern.ensures.pattern) (searched.1 plan c.plan-plan.ensures.0)))
+
+pub tuples-requires-clause-names : goal.tuples-requires-clause-names
+tuples-requires-clause-names g c = names c.args.compiled.now c.args.side c.args.key.now c.pattern.result.now c.pattern.ensures.pattern c.requires.typed
+
+pub tuples-requires-clause-in_range : goal.tuples-requires-clause-in_range
+tuples-requires-clause-in_range g c = subst (λ p. c.args.var < length p.edge_vars) (sym c.pattern.ensures.pattern) c.requires.in_range

@@ -14,6 +14,8 @@ use Rattle.pgs_match.proofs.Learning.{short_left, taken_right, taken_owed}
 use Rattle.pgs_match.proofs.Scopes.{pattern_has}
 use Rattle.pgs_match.proofs.Values.{scope_valid}
 use Rattle.std.proofs.lemmas.Bool.{and_parts}
+use Rattle.pgs_match.specs.declared.planned.Side.TheVariants.{Scope}
+use Rattle.pgs_match.proofs.Typed.{is_valid, has_x, names}
 use Rattle.pgs_match.proofs.learned.in_scope_learned.Goals as goal
 
 pub returns-then-not-is_noted-clause-once : goal.returns-then-not-is_noted-clause-once
@@ -135,3 +137,23 @@ returns-clause-once g c =
     let paid = c.has_match_by-found.ensures.once pairs searched.0 closed c.if-is_full.false in
     let less = taken_owed graph pairs c.args.learned.now.scope plan memo c.in_ok-memo.ensures.memo in
     omega (arith, paid, less)
+
+pub has_match-requires-clause-valid : goal.has_match-requires-clause-valid
+has_match-requires-clause-valid g c = is_valid Scope c.args.key.now c.pattern-pattern.result.now c.pattern-pattern.ensures.pattern c.pattern-pattern.ensures.valid
+
+pub has_match-requires-clause-names : goal.has_match-requires-clause-names
+has_match-requires-clause-names g c = names c.args.compiled.now Scope c.args.key.now c.pattern-pattern.result.now c.pattern-pattern.ensures.pattern c.requires.typed
+
+pub has_match-requires-clause-in_range : goal.has_match-requires-clause-in_range
+has_match-requires-clause-in_range g c = has_x Scope c.args.key.now c.pattern-pattern.result.now c.pattern-pattern.ensures.pattern c.pattern-pattern.ensures.valid
+
+pub has_match-requires-clause-plan : goal.has_match-requires-clause-plan
+has_match-requires-clause-plan g c =
+    subst (λ p. is_plan p 0 c.as_slice-plan.result.now ≡ true) (sym c.pattern-pattern.ensures.pattern)
+    (subst (λ steps. is_plan c.args.key.now.scope 0 steps ≡ true) (sym c.as_slice-plan.ensures) c.plan.ensures.0)
+
+pub has_match_by-found-requires-clause-names : goal.has_match_by-found-requires-clause-names
+has_match_by-found-requires-clause-names g c = names c.args.compiled.now Scope c.args.key.now c.pattern-pattern.result.now c.pattern-pattern.ensures.pattern c.requires.typed
+
+pub has_match_by-found-requires-clause-in_range : goal.has_match_by-found-requires-clause-in_range
+has_match_by-found-requires-clause-in_range g c = has_x Scope c.args.key.now c.pattern-pattern.result.now c.pattern-pattern.ensures.pattern c.pattern-pattern.ensures.valid

@@ -1,21 +1,21 @@
-use Rattle.std.proofs.Common.{◌≡◌, ◌+◌, ◌*◌, ◌≤◌, ◌<◌, true, ◌||◌, ◌==◌, List, [], length, map, nat_lt, sym, ap, subst, ◌∙◌}
+use Rattle.std.proofs.Common.{◌≡◌, ◌≤◌, true, List, [], length, map, nat_lt, sym, ap, subst, ◌∙◌}
 use Rattle.std.specs.Option.{IfSome, option_map_or}
 use Rattle.std.specs.List.{list_all}
 use Rattle.std.proofs.lemmas.Bool.{and_parts, leb-true}
 use Rattle.pgs_syntax.specs.declared.pattern.Expr.{Expr}
 use Rattle.pgs_syntax.specs.declared.pattern.Pattern.{Pattern}
-use Rattle.pgs_syntax.specs.KeyValues.{key_values}
 use Rattle.pgs_syntax.specs.Valid.{read_var, edge_count, is_valid_pattern}
 use Rattle.pgs_match.specs.declared.planned.Side.TheVariants.{Descriptor}
 use Rattle.pgs_match.specs.Frontier.{AreNoted}
 use Rattle.pgs_match.specs.Learned.{IsMemo, IsWayMemo}
-use Rattle.pgs_match.specs.Planned.{most_edges, IsSplit, taken}
+use Rattle.pgs_match.specs.Planned.{most_edges, IsSplit}
 use Rattle.pgs_match.specs.Bounds.{with_bound, nothing_bound}
 use Rattle.pgs_match.specs.Search.{gathered}
 use Rattle.pgs_match.specs.Tests.{admitted}
 use Rattle.pgs_match.proofs.ToOne.{values_taken_right}
 use Rattle.pgs_match.proofs.Values.{descriptor_valid, gathered_are_values}
-use Rattle.pgs_match.proofs.Scopes.{ok_same, some_variable, side_edges}
+use Rattle.pgs_match.proofs.Scopes.{some_variable, side_edges}
+use Rattle.pgs_match.proofs.Typed.{has_x, names}
 use Rattle.pgs_match.proofs.learned.key_values_learned.Goals as goal
 
 pub tuples-requires-clause-plan : goal.tuples-requires-clause-plan
@@ -123,3 +123,9 @@ pub tuples-requires-clause-few_exprs : goal.tuples-requires-clause-few_exprs
 tuples-requires-clause-few_exprs g c =
     subst (λ (exprs : List Expr). length exprs ≤ 16) (sym (c.as_slice-exprs.ensures ∙ ap (λ k. k.exprs) c.key.ensures))
     (leb-true (length c.args.key.now.exprs) 16 (and_parts _ _ (and_parts _ _ c.pattern-pattern.ensures.valid).0).1)
+
+pub tuples-requires-clause-names : goal.tuples-requires-clause-names
+tuples-requires-clause-names g c = names c.args.compiled.now Descriptor c.args.key.now c.pattern-pattern.result.now c.pattern-pattern.ensures.pattern c.requires.typed
+
+pub tuples-requires-clause-in_range : goal.tuples-requires-clause-in_range
+tuples-requires-clause-in_range g c = has_x Descriptor c.args.key.now c.pattern-pattern.result.now c.pattern-pattern.ensures.pattern c.pattern-pattern.ensures.valid

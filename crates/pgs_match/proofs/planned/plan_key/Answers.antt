@@ -2,6 +2,7 @@ use Rattle.std.proofs.Common.{◌≡◌, true, map, sym, subst}
 use Rattle.pgs_syntax.specs.Valid.{read_var, is_valid_key}
 use Rattle.pgs_match.specs.Planned.{ArePlans, IsSplit, taken}
 use Rattle.pgs_match.proofs.Scopes.{some_variable}
+use Rattle.pgs_match.proofs.Values.{scope_valid, descriptor_valid}
 use Rattle.pgs_match.proofs.planned.plan_key.Goals as goal
 
 pub plan_to-requires-clause-in_range : goal.plan_to-requires-clause-in_range
@@ -16,3 +17,12 @@ invariant_of-result c =
       subst (λ key. IsSplit (taken key) key.descriptor 0 c.in_ok-values.values) same
           (subst (λ exprs. IsSplit (map read_var exprs) c.args.key.now.descriptor 0 c.in_ok-values.values) c.as_slice.ensures c.in_ok-values.ensures),
     )
+
+pub plan_pattern-requires : goal.plan_pattern-requires
+plan_pattern-requires c = scope_valid c.args.key.now c.requires
+
+pub plan_pattern-requires-2 : goal.plan_pattern-requires-2
+plan_pattern-requires-2 c = descriptor_valid c.args.key.now c.requires
+
+pub plan_to-requires-clause-valid : goal.plan_to-requires-clause-valid
+plan_to-requires-clause-valid c = descriptor_valid c.args.key.now c.requires

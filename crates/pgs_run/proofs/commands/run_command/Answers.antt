@@ -1,6 +1,6 @@
 use Rattle.std.proofs.Common.{[], ap, ap₂, refl, sym, ◌∙◌}
 use Rattle.pgs_command.specs.Setting.{SourceState}
-use Rattle.pgs_run_checkpoint.specs.Spec.{checkpoint_spec}
+use Rattle.pgs_run_renewal.specs.CheckpointSpec.{checkpoint_spec}
 use Rattle.pgs_run_gen.specs.Spec.{gen_spec}
 use Rattle.pgs_run_store.specs.Dump.{told_dump}
 use Rattle.pgs_run_store.specs.Explaining.{told_element}

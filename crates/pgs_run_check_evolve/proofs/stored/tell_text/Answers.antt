@@ -2,7 +2,7 @@ use Rattle.std.proofs.Common.{◌≡◌, ℕ, List, ◌++◌, sym, ap, subst, �
 use Rattle.pgs_run_input.proofs.Answering.{answer_ok}
 use Rattle.pgs_run_contain.specs.Behind.{FollowsBoth}
 use Rattle.pgs_run_contain.specs.Names.{Names, names_in}
-use Rattle.pgs_run_evolve.proofs.Evolves.{without_next}
+use Rattle.pgs_run_renewal.proofs.Evolves.{without_next}
 use Rattle.pgs_run_store.specs.Opening.{saved_in}
 use Rattle.pgs_run_check_evolve.specs.Stored.{stored_behind}
 use Rattle.pgs_run_check_evolve.proofs.StoreNext.{none_next, old_next, schema_next}

@@ -1,5 +1,5 @@
 use Rattle.std.proofs.Common.{◌≡◌, map, take}
-use Rattle.pgs_schema_order.specs.AsksNoMore.{is_dropped}
+use Rattle.pgs_schema_changes.specs.AsksNoMore.{is_dropped}
 use Rattle.pgs_schema_changes.proofs.changes.dropped_keys.Given as goal
 
 abbrev pub invariant-loop-own : goal.invariant-loop-own

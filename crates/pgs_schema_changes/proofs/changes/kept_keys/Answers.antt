@@ -1,7 +1,7 @@
 use Rattle.std.proofs.Common.{◌≡◌, ◌+◌, Bool, List, ◌++◌, ◌∷◌, [], map, take, sym, ap, ◌∙◌}
 use Rattle.std.proofs.lemmas.List.{map-append, take_all, take_more}
 use Rattle.pgs_syntax.specs.declared.key.Key.{Key}
-use Rattle.pgs_schema_order.specs.AsksNoMore.{is_kept}
+use Rattle.pgs_schema_changes.specs.AsksNoMore.{is_kept}
 use Rattle.pgs_schema_changes.proofs.changes.kept_keys.Goals as goal
 
 pub loop-key-preserved : goal.loop-key-preserved

@@ -1,5 +1,5 @@
 use Rattle.std.proofs.Common.{◌≡◌, map, take}
-use Rattle.pgs_schema_order.specs.AsksNoMore.{is_kept}
+use Rattle.pgs_schema_changes.specs.AsksNoMore.{is_kept}
 use Rattle.pgs_schema_changes.proofs.changes.kept_keys.Given as goal
 
 abbrev pub invariant-loop-key : goal.invariant-loop-key

@@ -1,4 +1,4 @@
-use Rattle.pgs_schema_order.specs.Unfolded.{node_tree}
+use Rattle.pgs_schema_changes.specs.Unfolded.{node_tree}
 use Rattle.pgs_schema_changes.proofs.Unfolding.{edge_put}
 use Rattle.pgs_schema_changes.proofs.declarations.number_edge.Goals as goal
 

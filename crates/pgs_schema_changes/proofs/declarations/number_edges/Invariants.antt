@@ -1,6 +1,6 @@
 use Rattle.std.proofs.Common.{◌≡◌, length}
 use Rattle.pgs_syntax.specs.declared.resolved.Resolved.{Resolved}
-use Rattle.pgs_schema_order.specs.Unfolded.{tree_below, edge_tree_of, node_tree}
+use Rattle.pgs_schema_changes.specs.Unfolded.{tree_below, edge_tree_of, node_tree}
 use Rattle.pgs_schema_changes.specs.Numbers.{AreNamed, IsNumbered, PutsAll}
 use Rattle.pgs_schema_changes.proofs.declarations.number_edges.Given as goal
 

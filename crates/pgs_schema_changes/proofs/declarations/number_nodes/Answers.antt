@@ -1,6 +1,6 @@
 use Rattle.std.proofs.Common.{ℕ, List, length, refl, sym, ap, subst, ◌∙◌, arith}
 use Rattle.std.proofs.lemmas.Option.{slice_get_read}
-use Rattle.pgs_schema_order.specs.Unfolded.{tree_below, node_tree_of}
+use Rattle.pgs_schema_changes.specs.Unfolded.{tree_below, node_tree_of}
 use Rattle.pgs_schema_changes.specs.Numbers.{AreNamed}
 use Rattle.pgs_schema_changes.proofs.Numbering.{length_last}
 use Rattle.pgs_schema_changes.proofs.Unfolding.{type_put}

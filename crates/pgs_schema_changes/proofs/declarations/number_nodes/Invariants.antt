@@ -1,5 +1,5 @@
 use Rattle.std.proofs.Common.{◌≡◌, length}
-use Rattle.pgs_schema_order.specs.Unfolded.{tree_below, node_tree_of}
+use Rattle.pgs_schema_changes.specs.Unfolded.{tree_below, node_tree_of}
 use Rattle.pgs_schema_changes.specs.Numbers.{IsNumbered, PutsAll}
 use Rattle.pgs_schema_changes.proofs.declarations.number_nodes.Given as goal
 

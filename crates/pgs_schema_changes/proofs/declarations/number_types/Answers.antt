@@ -2,7 +2,7 @@ use Rattle.std.proofs.Common.{ℕ, List, length, sym, subst}
 use Rattle.pgs_syntax.specs.declared.element_type.NodeType.{NodeType}
 use Rattle.pgs_syntax.specs.declared.element_type.EdgeType.{EdgeType}
 use Rattle.pgs_syntax.specs.declared.specification.Leaf.{Leaf}
-use Rattle.pgs_schema_order.specs.Unfolded.{tree_below, node_tree, node_tree_of, edge_tree_of}
+use Rattle.pgs_schema_changes.specs.Unfolded.{tree_below, node_tree, node_tree_of, edge_tree_of}
 use Rattle.pgs_schema_changes.specs.Numbers.{AreNamed, PutsAll}
 use Rattle.pgs_schema_changes.proofs.Unfolding.{types_put}
 use Rattle.pgs_schema_changes.proofs.declarations.number_types.Goals as goal

@@ -1,5 +1,5 @@
 use Rattle.std.proofs.Common.{ℕ, ◌≤◌, length, drop}
-use Rattle.pgs_schema_order.specs.Unfolded.{Tree}
+use Rattle.pgs_schema_changes.specs.Unfolded.{Tree}
 use Rattle.pgs_schema_changes.specs.Numbers.{AreNamed, IsNumbered, Puts}
 use Rattle.pgs_schema_changes.specs.Parts.{parts_tree}
 use Rattle.pgs_schema_changes.proofs.specification.+trees.Given as goal

@@ -31,8 +31,8 @@ invariant_of-self-2 c =
     let inside = c.self.inside in
     let table : TableState = record { exclusive = inside.exclusive; seed = inside.seed; rows = inside.rows; holders = inside.holders } in
     held_still table c.args.digest c.args.elem c.relist.new.holders c.self.invariant (ap (λ t. is_exclusive t.exclusive c.args.digest.key) c.self.view_is ∙ c.requires)
-    (relisted c.args.digest c.args.elem c.elements_at-elems.result.now c.in_ok-few.few inside.holders.rows c.make_slot.new.self.rows c.relist.new.holders.rows
-    c.in_ok-few.ensures (c.elements_at-elems.ensures ∙ ap (λ l. listed_at l c.args.digest) c.in_ok-make_slot.ensures.rows) c.in_ok-make_slot.ensures.rows c.relist.ensures)
+    (relisted c.args.digest c.args.elem c.as_slice-elems.result.now c.in_ok-few.few inside.holders.rows c.make_slot.new.self.rows c.relist.new.holders.rows
+    c.in_ok-few.ensures (c.as_slice-elems.ensures ∙ c.elements_at-lent.ensures ∙ ap (λ l. listed_at l c.args.digest) c.in_ok-make_slot.ensures.rows) c.in_ok-make_slot.ensures.rows c.relist.ensures)
 
 pub returns-clause-grows : goal.returns-clause-grows
 returns-clause-grows c =
@@ -40,5 +40,5 @@ returns-clause-grows c =
     let table : TableState = record { exclusive = inside.exclusive; seed = inside.seed; rows = inside.rows; holders = inside.holders } in
     subst (λ t. Grows t (record { exclusive = inside.exclusive; seed = inside.seed; rows = inside.rows; holders = c.relist.new.holders })) c.self.view_is
     (listed_more table c.relist.new.holders (grown table c.args.digest c.args.elem c.relist.new.holders.rows
-    (relisted c.args.digest c.args.elem c.elements_at-elems.result.now c.in_ok-few.few inside.holders.rows c.make_slot.new.self.rows c.relist.new.holders.rows
-    c.in_ok-few.ensures (c.elements_at-elems.ensures ∙ ap (λ l. listed_at l c.args.digest) c.in_ok-make_slot.ensures.rows) c.in_ok-make_slot.ensures.rows c.relist.ensures)))
+    (relisted c.args.digest c.args.elem c.as_slice-elems.result.now c.in_ok-few.few inside.holders.rows c.make_slot.new.self.rows c.relist.new.holders.rows
+    c.in_ok-few.ensures (c.as_slice-elems.ensures ∙ c.elements_at-lent.ensures ∙ ap (λ l. listed_at l c.args.digest) c.in_ok-make_slot.ensures.rows) c.in_ok-make_slot.ensures.rows c.relist.ensures)))

@@ -22,7 +22,7 @@ none_in p xs i x made more fails is = is ∙ sym (more ∙ ap (λ b. filter p (t
 pub loop-elem-preserved : goal.loop-elem-preserved
 loop-elem-preserved c =
     let p = stands c.args.self.now c.args.digest in
-    let elems = c.elements_at-elems.result.now in
+    let elems = c.as_slice-elems.result.now in
     let i = c.loop-elem.elem-index in
     let x = get_or elems i (Node (record { 0 = 0 })) in
     let more = filter_more p elems i (Node (record { 0 = 0 })) c.loop-elem-test.true in

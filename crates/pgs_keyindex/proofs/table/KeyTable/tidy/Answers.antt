@@ -1,4 +1,4 @@
-use Rattle.std.proofs.Common.{◌≡◌, cond, List, ◌∙◌, sym, ap}
+use Rattle.std.proofs.Common.{◌≡◌, cond, List, IfSome, ◌∙◌, sym, ap, subst}
 use Rattle.std.specs.BTreeMap.{is_at}
 use Rattle.std.specs.List.{filter}
 use Rattle.pgs_base.specs.declared.element.Elem.{Elem}
@@ -22,8 +22,11 @@ invariant_of-self-2 c =
     let inside = c.self.inside in
     let digest = c.args.digest in
     let table : TableState = record { exclusive = inside.exclusive; seed = inside.seed; rows = inside.rows; holders = inside.holders } in
+    let now = c.args.self.now in
+    let left : c.in-Some.standing ≡ filter (stands now digest) (listed_at now.holders.rows digest) =
+    subst (λ o. IfSome o (λ few. few ≡ filter (stands now digest) (listed_at now.holders.rows digest))) c.in-Some.is c.in_ok-found.ensures in
     held_still table digest c.relist.new.holders c.self.invariant
     (λ other. c.relist.ensures other
-    ∙ ap (λ l. cond (is_at (digest_cmp digest) other) c.in_ok-standing.standing (listed_at l other)) c.in_ok-make_slot.ensures.rows
+    ∙ ap (λ l. cond (is_at (digest_cmp digest) other) c.in-Some.standing (listed_at l other)) c.in_ok-make_slot.ensures.rows
     ∙ ap (λ f. cond (is_at (digest_cmp digest) other) f (listed_at inside.holders.rows other))
-    (c.in_ok-standing.ensures ∙ ap (λ t. filter (stands t digest) (listed_at t.holders.rows digest)) (sym c.self.view_is)))
+    (left ∙ ap (λ t. filter (stands t digest) (listed_at t.holders.rows digest)) (sym c.self.view_is)))

@@ -31,6 +31,21 @@ behind-requires-clause-right g c =
     ] in
     subst (AreNoted search.compiled.now graph search.atoms.now c.args.self.now.asking.whole.now) (sym same) c.requires.right
 
+pub returns-then-edges-le-FEW_EDGES-clause-added : goal.returns-then-edges-le-FEW_EDGES-clause-added
+returns-then-edges-le-FEW_EDGES-clause-added g c =
+    (c.in_ok-ids.ids, c.in_ok-extend_from_slice-2.ensures.items ∙ ap (λ ids. c.args.ends.now.items ++ ids) c.as_slice-2.ensures, c.in_ok-ids.ensures.all)
+
+pub returns-then-edges-le-FEW_EDGES-clause-once : goal.returns-then-edges-le-FEW_EDGES-clause-once
+returns-then-edges-le-FEW_EDGES-clause-once g c =
+    let graph = g.G.GraphRead.meaning c.args.self.now.asking.search.graph.now in
+    let same : c.match-of.notes ≡ c.args.notes.now = elim c.match-of.branch [
+      | in-Some+else-eq w ↦ w.notes-is
+      | in_default w ↦ w.notes-is
+    ] in
+    λ var pairs few closed among ahead further.
+    let most = hop_most graph (length c.args.self.now.asking.whole.now) (stand_at var (Node c.args.from)) in
+    subst (λ (n : Notes). IsPaidOn graph pairs n c.behind.new.notes c.args.steps.now c.behind.new.steps most) same (c.in_ok-ids.ensures.once var pairs few closed among ahead further)
+
 pub returns-clause-added : goal.returns-clause-added
 returns-clause-added g c =
     let search = c.args.self.now.asking.search in

@@ -1,7 +1,6 @@
-use Rattle.std.proofs.Common.{◌≡◌, ◌+◌, ◌*◌, ◌^◌, ◌<◌, ◌≤◌, true, List, [], length, map, nat_lt, IfOk, refl, sym, ap, ◌∙◌, subst, arith}
+use Rattle.std.proofs.Common.{◌≡◌, ◌+◌, ◌*◌, ◌^◌, ◌≤◌, true, [], length, map, nat_lt, refl, sym, ap, ◌∙◌, subst, arith}
 use Rattle.std.specs.Option.{option_map_or}
 use Rattle.std.specs.List.{list_all, sum_by}
-use Rattle.pgs_base.specs.declared.part.Part.{Part}
 use Rattle.pgs_syntax.specs.Valid.{read_var}
 use Rattle.pgs_match.specs.declared.stand.Stand.{Stand}
 use Rattle.pgs_match.specs.Answers.{EndsIn, IsAmong}

@@ -1,6 +1,6 @@
 use Rattle.std.proofs.Common.{◌∙◌}
 use Rattle.pgs_feed.specs.Deliveries.{kind_of}
-use Rattle.pgs_run_apply_rule.specs.Outcome.{refusing}
+use Rattle.pgs_run_apply.specs.Outcome.{refusing}
 use Rattle.pgs_run_apply.specs.Seen.{state_of}
 use Rattle.pgs_run_apply.proofs.Taken.{take_refused, take_untaken}
 use Rattle.pgs_run_apply.proofs.applying.Applying.refuse.Goals as goal

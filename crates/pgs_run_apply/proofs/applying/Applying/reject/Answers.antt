@@ -2,7 +2,7 @@ use Rattle.std.proofs.Common.{sym}
 use Rattle.pgs_answer.specs.Refusals.{rejection_text}
 use Rattle.pgs_feed.specs.Deliveries.{kind_of}
 use Rattle.pgs_run_input.specs.Session.{standard}
-use Rattle.pgs_run_apply_rule.specs.Outcome.{refusing}
+use Rattle.pgs_run_apply.specs.Outcome.{refusing}
 use Rattle.pgs_run_apply.specs.Seen.{state_of}
 use Rattle.pgs_run_apply.proofs.Taken.{rejecting, take_as, take_untaken}
 use Rattle.pgs_run_apply.proofs.applying.Applying.reject.Goals as goal

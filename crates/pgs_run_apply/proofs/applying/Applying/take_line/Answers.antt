@@ -2,7 +2,7 @@ use Rattle.std.proofs.Common.{◌≡◌, ◌∙◌, Ok, Err, ap, subst, sym}
 use Rattle.pgs_feed.specs.Deliveries.{kind_of}
 use Rattle.pgs_run_input.specs.Answers.{txn_answer}
 use Rattle.pgs_run_input.specs.TextFaults.{IsFaultOf}
-use Rattle.pgs_run_apply_rule.specs.Outcome.{outcome_of}
+use Rattle.pgs_run_apply.specs.Outcome.{outcome_of}
 use Rattle.pgs_run_apply.specs.Seen.{state_of}
 use Rattle.pgs_run_apply.proofs.Following.{blank_outcome, line_outcome}
 use Rattle.pgs_run_apply.proofs.Taken.{take_as, take_none, take_skipped}

@@ -3,7 +3,7 @@ use Rattle.pgs_answer.specs.Lines.{feed_line}
 use Rattle.pgs_feed.specs.Deliveries.{kind_of}
 use Rattle.pgs_violation.specs.Violations.{verdict}
 use Rattle.pgs_run_input.specs.Session.{decision_on}
-use Rattle.pgs_run_apply_rule.specs.Outcome.{deciding}
+use Rattle.pgs_run_apply.specs.Outcome.{deciding}
 use Rattle.pgs_run_apply.specs.Seen.{state_of, state_with}
 use Rattle.pgs_run_apply.proofs.Asked.{still_holds, take_done, take_rejected, take_stopped}
 use Rattle.pgs_run_apply.proofs.Taken.{take_untaken}

@@ -1,4 +1,4 @@
-use Rattle.std.proofs.Common.{◌≡◌, ◌+◌, ◌∙◌, Ok, refl, ap, subst}
+use Rattle.std.proofs.Common.{◌≡◌, ◌+◌, ◌∙◌, Ok, refl, sym, ap, subst}
 use Rattle.std.proofs.lemmas.Result.{err_from_is_err_and}
 use Rattle.pgs_decide.specs.Refused.{IsRejected}
 use Rattle.pgs_graph.specs.Changed.{changed}
@@ -7,7 +7,7 @@ use Rattle.pgs_store.specs.Costs.{IsWithin}
 use Rattle.pgs_store.specs.State.{GuardState}
 use Rattle.pgs_store.specs.Stored.{committed}
 use Rattle.pgs_store.proofs.Exits.{same_guard}
-use Rattle.pgs_store.proofs.Indexed.{made_accepted, made_indexed, still_indexed}
+use Rattle.pgs_store.proofs.Indexed.{done_indexed, still_indexed}
 use Rattle.pgs_store.proofs.guard.Guard.apply.Goals as goal
 
 -- ---- the decision refuses
@@ -35,37 +35,37 @@ returns-in_err-decided-clause-cost g c =
 
 -- ---- there is no memory to do it
 
-pub returns-in_err-ready-clause-number : goal.returns-in_err-ready-clause-number
-returns-in_err-ready-clause-number g c = let p = err_from_is_err_and c.from_residual-in_err-ready.result c.from_residual-in_err-ready.ensures.1 in rw p.1 tt
+pub returns-in_err-change-clause-number : goal.returns-in_err-change-clause-number
+returns-in_err-change-clause-number g c = let p = err_from_is_err_and c.from_residual-in_err-change.result c.from_residual-in_err-change.ensures.1 in rw p.1 tt
 
-pub returns-in_err-ready-clause-accepted : goal.returns-in_err-ready-clause-accepted
-returns-in_err-ready-clause-accepted g c = let p = err_from_is_err_and c.from_residual-in_err-ready.result c.from_residual-in_err-ready.ensures.1 in rw p.1 tt
+pub returns-in_err-change-clause-accepted : goal.returns-in_err-change-clause-accepted
+returns-in_err-change-clause-accepted g c = let p = err_from_is_err_and c.from_residual-in_err-change.result c.from_residual-in_err-change.ensures.1 in rw p.1 tt
 
-pub returns-in_err-ready-clause-rejected : goal.returns-in_err-ready-clause-rejected
-returns-in_err-ready-clause-rejected g c =
-    let p = err_from_is_err_and c.from_residual-in_err-ready.result c.from_residual-in_err-ready.ensures.1 in rw (p.1, p.2) tt
+pub returns-in_err-change-clause-rejected : goal.returns-in_err-change-clause-rejected
+returns-in_err-change-clause-rejected g c =
+    let p = err_from_is_err_and c.from_residual-in_err-change.result c.from_residual-in_err-change.ensures.1 in rw (p.1, p.2) tt
 
-pub returns-in_err-ready-clause-kept : goal.returns-in_err-ready-clause-kept
-returns-in_err-ready-clause-kept g c = let p = err_from_is_err_and c.from_residual-in_err-ready.result c.from_residual-in_err-ready.ensures.1 in rw p.1 tt
+pub returns-in_err-change-clause-kept : goal.returns-in_err-change-clause-kept
+returns-in_err-change-clause-kept g c = let p = err_from_is_err_and c.from_residual-in_err-change.result c.from_residual-in_err-change.ensures.1 in rw p.1 tt
 
-pub returns-in_err-ready-clause-unchanged : goal.returns-in_err-ready-clause-unchanged
-returns-in_err-ready-clause-unchanged g c =
-    let p = err_from_is_err_and c.from_residual-in_err-ready.result c.from_residual-in_err-ready.ensures.1 in
+pub returns-in_err-change-clause-unchanged : goal.returns-in_err-change-clause-unchanged
+returns-in_err-change-clause-unchanged g c =
+    let p = err_from_is_err_and c.from_residual-in_err-change.result c.from_residual-in_err-change.ensures.1 in
     let inside = c.self.inside in
     rw p.1
-    (same_guard inside.schema.text inside.schema.resolved inside.limits inside.commits inside.seed inside.graph.graph c.prepare.new.tables.graph c.args.self.now c.prepare.ensures.graph c.self.view_is)
+    (same_guard inside.schema.text inside.schema.resolved inside.limits inside.commits inside.seed inside.graph.graph c.change.new.tables.graph c.args.self.now c.in_err-change.ensures.same_graph c.self.view_is)
 
-pub returns-in_err-ready-clause-cost : goal.returns-in_err-ready-clause-cost
-returns-in_err-ready-clause-cost g c =
+pub returns-in_err-change-clause-cost : goal.returns-in_err-change-clause-cost
+returns-in_err-change-clause-cost g c =
     subst (λ (s : GuardState). IsWithin s c.args.txn.now c.args.steps.now c.decision_of.new.steps) c.self.view_is c.decision_of.ensures.cost
 
 pub invariant_of-self : goal.invariant_of-self
 invariant_of-self g c =
     let inside = c.self.inside in
-    let prepared = c.prepare.new in (
-      still_indexed inside.schema.resolved inside.limits inside.graph.graph prepared.tables.graph inside.index prepared.index c.prepare.ensures.graph c.prepare.ensures.exclusive c.prepare.ensures.rows
-          c.self.invariant.0,
-      (c.prepare.ensures.seeds ∙ c.self.invariant.1.0, c.prepare.ensures.seed ∙ c.self.invariant.1.1),
+    let kept = c.change.new in (
+      still_indexed inside.schema.resolved inside.limits inside.graph.graph kept.tables.graph inside.index kept.index c.in_err-change.ensures.same_graph c.in_err-change.ensures.exclusive
+          c.in_err-change.ensures.same_rows c.self.invariant.0,
+      (c.in_err-change.ensures.seeds ∙ c.self.invariant.1.0, c.in_err-change.ensures.seed ∙ c.self.invariant.1.1),
     )
 
 -- ---- it is done
@@ -76,11 +76,11 @@ returns-clause-number g c = ap (λ (s : GuardState). s.commits + 1) c.self.view_
 pub returns-clause-accepted : goal.returns-clause-accepted
 returns-clause-accepted g c =
     let graph = c.self.inside.graph.graph in
-    made_accepted graph c.prepare.new.tables.graph c.commit.new.tables.graph c.in_ok-decided.decided c.in_ok-ready.ready c.args.self.now c.args.txn.now c.prepare.ensures.graph c.commit.ensures.graph c.in_ok-ready.ensures.whole
-    (subst (λ (s : GuardState). decided s c.args.txn.now ≡ Ok (changed graph c.in_ok-decided.decided.delta)) c.self.view_is c.in_ok-decided.ensures.accepted)
+    subst (λ (s : GuardState). decided s c.args.txn.now ≡ Ok (changed graph c.in_ok-decided.decided.delta)) c.self.view_is c.in_ok-decided.ensures.accepted
+    ∙ ap Ok (sym c.in_ok-change.ensures.graph)
 
 pub returns-clause-kept : goal.returns-clause-kept
-returns-clause-kept g c = ap (λ (s : GuardState). committed s c.commit.new.tables.graph) c.self.view_is
+returns-clause-kept g c = ap (λ (s : GuardState). committed s c.change.new.tables.graph) c.self.view_is
 
 pub returns-clause-cost : goal.returns-clause-cost
 returns-clause-cost g c =
@@ -89,10 +89,8 @@ returns-clause-cost g c =
 pub invariant_of-self-2 : goal.invariant_of-self-2
 invariant_of-self-2 g c =
     let inside = c.self.inside in
-    let prepared = c.prepare.new in
-    let next = c.commit.new in (
-      made_indexed inside.schema.resolved inside.limits inside.graph.graph prepared.tables.graph next.tables.graph inside.index prepared.index next.index c.in_ok-decided.decided c.in_ok-ready.ready
-          c.prepare.ensures.graph c.commit.ensures.graph c.prepare.ensures.exclusive c.prepare.ensures.rows c.commit.ensures.exclusive c.commit.ensures.rows c.in_ok-ready.ensures.whole
-          c.in_ok-decided.ensures.guarded c.in_ok-decided.ensures.stands,
-      (c.commit.ensures.seeds ∙ c.prepare.ensures.seeds ∙ c.self.invariant.1.0, c.commit.ensures.seed ∙ c.prepare.ensures.seed ∙ c.self.invariant.1.1),
+    let next = c.change.new in (
+      done_indexed inside.schema.resolved inside.limits inside.graph.graph next.tables.graph inside.index next.index c.in_ok-decided.decided c.in_ok-change.ensures.graph
+          c.in_ok-change.ensures.exclusive c.in_ok-change.ensures.rows c.in_ok-decided.ensures.guarded c.in_ok-decided.ensures.stands,
+      (c.in_ok-change.ensures.seeds ∙ c.self.invariant.1.0, c.in_ok-change.ensures.seed ∙ c.self.invariant.1.1),
     )

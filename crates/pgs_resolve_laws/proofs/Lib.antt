@@ -1,9 +1,0 @@
-pub mod AllListed
-pub mod Cycles
-pub mod Listing
-pub mod Members
-pub mod Named
-pub mod Resolved
-pub mod Trails
-pub mod Unrefused
-pub mod Walked

@@ -1,3 +1,0 @@
-pub mod Applying
-pub mod Outcome
-pub mod State

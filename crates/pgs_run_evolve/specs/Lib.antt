@@ -1,4 +1,0 @@
-pub mod Evolving
-pub mod Leaving
-pub mod Spec
-pub mod Told

@@ -1,5 +1,0 @@
-pub mod Leaving
-pub mod Loads
-pub mod Promised
-pub mod Stops
-pub mod Unmoved

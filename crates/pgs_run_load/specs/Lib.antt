@@ -1,4 +1,0 @@
-pub mod Leaving
-pub mod Loading
-pub mod Spec
-pub mod Told

@@ -1,0 +1,15 @@
+pub mod CheckpointKept
+pub mod CheckpointPromised
+pub mod EvolveKept
+pub mod EvolveLeaving
+pub mod EvolvePromised
+pub mod EvolveUnmoved
+pub mod Evolves
+pub mod LoadLeaving
+pub mod LoadPromised
+pub mod LoadUnmoved
+pub mod Loads
+pub mod Renewing
+pub mod Stops
+pub mod Unlike
+pub mod Unopened

@@ -1,0 +1,11 @@
+pub mod CheckpointLeaving
+pub mod CheckpointSpec
+pub mod CheckpointTold
+pub mod EvolveLeaving
+pub mod EvolveSpec
+pub mod EvolveTold
+pub mod Evolving
+pub mod LoadLeaving
+pub mod LoadSpec
+pub mod LoadTold
+pub mod Loading

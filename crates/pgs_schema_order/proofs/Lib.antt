@@ -1,4 +1,0 @@
-pub mod Alike
-pub mod Kept
-pub mod Keys
-pub mod Types

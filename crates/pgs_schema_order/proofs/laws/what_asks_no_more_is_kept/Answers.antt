@@ -1,5 +1,0 @@
-use Rattle.pgs_schema_order.proofs.Kept.{kept}
-use Rattle.pgs_schema_order.proofs.laws.what_asks_no_more_is_kept.Goals as goal
-
-pub returns : goal.returns
-returns c = kept

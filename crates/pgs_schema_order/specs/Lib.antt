@@ -1,2 +1,0 @@
-pub mod AsksNoMore
-pub mod Unfolded
