@@ -53,7 +53,7 @@ pub fn tell_calls(alloc: Global, told: &mut Told) -> Result<(), Memory> {
         }
         told.word(";");
     }
-    told.truth(size_of::<EdgeList>() <= 40);
+    told.truth(size_of::<EdgeList>() == 32);
     Ok(())
 }
 
