@@ -36,11 +36,7 @@ impl Ready {
 /// Takes all memory that a change of the graph and of the index needs, so that `commit` needs none. Both stay as they are. `Memory` where
 /// none was left. It asks that the delta is sound for the graph, and that after the changes of the index no two elements share a value of an
 /// exclusive key, as `decide` gives them.
-pub fn prepare(
-    tables: &mut Tables,
-    index: &mut KeyIndex,
-    decided: Decided,
-) -> Result<Ready, Memory>
+pub fn prepare(tables: &mut Tables, index: &mut KeyIndex, decided: Decided) -> Result<Ready, Memory>
     requires sound { is_sound tables.old.graph decided.delta ≡ true }
     requires owned { IsOwned index.old.exclusive (rows_changed index.old.rows decided.changes) }
     ensures graph { tables.new.graph ≡ tables.old.graph }

@@ -5,6 +5,7 @@ use Rattle.pgs_match.specs.declared.step.Step.{Step}
 use Rattle.pgs_match.specs.declared.step.Step.TheVariants.{Along, End}
 use Rattle.pgs_match.specs.Frontier.{hop_bounds, at_nodes, led_on, AreAllOf, AreApart}
 use Rattle.pgs_match.proofs.Frontiers.{all_is, none_from, none_after, few_nodes, last_all, edges_all, edges_cost, edges_ahead, edges_once, edges_few, tried_cost, lead_all, lead_cost, lead_path, lead_along, lead_ahead, lead_way, lead_once}
+use Rattle.pgs_match.proofs.Kept.{full_both}
 use Rattle.pgs_match.proofs.frontier.Frontier.+leading.Goals as goal
 
 pub returns-in_err-next-in-Some-End-default-head-clause-cost : goal.returns-in_err-next-in-Some-End-default-head-clause-cost
@@ -203,3 +204,7 @@ returns-in_ok-next-in-Some-End-default-head-clause-few g t c =
     subst (λ l. AreAllOf (flat_map (hop_bounds resolved graph atoms off (record { edge = one.edge; forward = one.forward; node = two.node; source = two.source })) here) (at_nodes l)) (sym c.as_slice.ensures) found.all in
     λ var pairs path apart way.
     c.lead_on.ensures.few two.node pairs (lead_path resolved graph atoms off ways one.rest.now two.rest.now here next one.edge one.field-0-0-1 two.field-0-0-0 two.node one.forward two.source first second all var pairs path way) (subst AreApart (sym c.as_slice.ensures) found.apart) (lead_way resolved graph atoms off ways one.rest.now two.rest.now here next one.edge one.field-0-0-1 two.field-0-0-0 two.node one.forward two.source first second all var pairs path way)
+
+pub returns-in_ok-next-in-Some-End-default-head-clause-full : goal.returns-in_ok-next-in-Some-End-default-head-clause-full
+returns-in_ok-next-in-Some-End-default-head-clause-full g t c =
+    full_both c.args.notes.now c.all_behind.new.notes c.lead_on.new.notes c.all_behind.ensures.full c.lead_on.ensures.full

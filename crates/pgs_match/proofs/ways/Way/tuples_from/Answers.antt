@@ -97,3 +97,12 @@ returns-clause-once g c = λ pairs few small among on_closed off_closed.
     let less = own_within graph pairs off c.args.var c.args.bound few among in
     paid_most graph pairs notes after c.args.steps.now c.gather_ends.new.steps (own + (1 + hops) + 16 * total) (456 * total + hops) (omega (arith, less))
     (paid_after graph pairs notes after c.args.steps.now c.lead_from.new.steps c.gather_ends.new.steps (own + (1 + hops)) (16 * total) (omega (arith, c.gather_ends.ensures.cost, tuples, same)) both)
+
+pub given-requires-clause-right : goal.given-requires-clause-right
+given-requires-clause-right g c = c.requires.right.1
+
+pub lead_from-requires-clause-right : goal.lead_from-requires-clause-right
+lead_from-requires-clause-right g c = (c.requires.right.0, c.given.ensures.right, c.requires.right.2)
+
+pub returns-then-not-given-clause-right : goal.returns-then-not-given-clause-right
+returns-then-not-given-clause-right g c = (c.requires.right.0, c.given.ensures.right, c.requires.right.2)
