@@ -158,6 +158,24 @@ fn others_of(
     }
 }
 
+// The line of the cause of a refusal of a text that has tokens, by what was read of them.
+fn line_by_reading(
+    alloc: Global,
+    text: &[u8],
+    tokens: &Tokens<'_>,
+    reading: &Reading,
+    refusal: &Refusal<'_>,
+) -> Result<Option<Bytes>, Memory>
+    requires { tokens_of text.now ≡ Ok tokens.now }
+    ensures { IfOk result (λ line. IfSome line (IsBecause text.now)) }
+{
+    let others = others_of(alloc, reading, tokens, refusal)?;
+    match token_place(alloc, tokens, reading, refusal)? {
+        Some(place) => token_line(alloc, text, tokens, place, others.as_slice()),
+        None => Ok(None),
+    }
+}
+
 // The line of the cause of a refusal of a text that has tokens.
 fn line_by_tokens(
     alloc: Global,
@@ -169,11 +187,7 @@ fn line_by_tokens(
     ensures { IfOk result (λ line. IfSome line (IsBecause text.now)) }
 {
     let reading = Reading::of(alloc, tokens)?;
-    let others = others_of(alloc, &reading, tokens, refusal)?;
-    match token_place(alloc, tokens, &reading, refusal)? {
-        Some(place) => token_line(alloc, text, tokens, place, others.as_slice()),
-        None => Ok(None),
-    }
+    line_by_reading(alloc, text, tokens, &reading, refusal)
 }
 
 /// The line of the cause of a refusal of a text, with its line feed: its place as a line and as a column in bytes, both from 1, and what the

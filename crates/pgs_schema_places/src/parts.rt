@@ -16,10 +16,19 @@ use std::alloc::Global;
 const ROOM: usize = 64;
 
 /// The texts of the parts of a key: of each place of its written descriptor, in the order of the text, and of each of its expressions.
-#[derive(Drop)]
 pub struct PartTexts {
     pub places: List<Bytes>,
     pub exprs: List<Bytes>,
+}
+
+// Dropped by one function, so that no other need prove anew how these texts are taken apart.
+impl Drop for PartTexts {
+    fn drop(self) {
+        let PartTexts {
+            places: _,
+            exprs: _,
+        } = self;
+    }
 }
 
 impl Copyable for PartTexts {
@@ -124,6 +133,20 @@ fn text_of(alloc: Global, tokens: &[Token<'_>]) -> Result<Bytes, Memory>
     Ok(text.into_bytes())
 }
 
+// Puts the text of so many tokens at most last.
+fn push_front(
+    alloc: Global,
+    tokens: &[Token<'_>],
+    count: usize,
+    texts: &mut Vec<Bytes>,
+) -> Result<(), Memory>
+    ensures { OnOk result (texts.new.items ≡ texts.old.items ++ text_of (take count (map lexeme_of tokens.now)) ∷ []) }
+{
+    let text = text_of(alloc, front(tokens, count))?;
+    texts.push(text)?;
+    Ok(())
+}
+
 // Puts the text of the place last that begins with the first token, where one does.
 fn push_place(alloc: Global, tokens: &[Token<'_>], texts: &mut Vec<Bytes>) -> Result<(), Memory>
     ensures { OnOk result (texts.new.items ≡ texts.old.items ++ map text_of (first_place (map lexeme_of tokens.now))) }
@@ -133,7 +156,7 @@ fn push_place(alloc: Global, tokens: &[Token<'_>], texts: &mut Vec<Bytes>) -> Re
     };
     if is_open(token) {
         let count = count_to(Mark::Close, rest);
-        texts.push(text_of(alloc, front(tokens, count + 2))?)?;
+        push_front(alloc, tokens, count + 2, texts)?;
     }
     Ok(())
 }
@@ -171,7 +194,7 @@ fn push_behind(alloc: Global, tokens: &[Token<'_>], texts: &mut Vec<Bytes>) -> R
     };
     if is_mark(Mark::Comma, token) {
         let count = count_to(Mark::Comma, rest);
-        texts.push(text_of(alloc, front(rest, count))?)?;
+        push_front(alloc, rest, count, texts)?;
     }
     Ok(())
 }
@@ -182,7 +205,7 @@ fn texts_between_commas(alloc: Global, tokens: &[Token<'_>]) -> Result<List<Byte
 {
     let mut texts = Vec::new(alloc);
     let count = count_to(Mark::Comma, tokens);
-    texts.push(text_of(alloc, front(tokens, count))?)?;
+    push_front(alloc, tokens, count, &mut texts)?;
     for place in 0..tokens.len() {
         push_behind(alloc, behind(tokens, place), &mut texts)?;
     }
@@ -231,6 +254,21 @@ fn tokens_between<'t>(
     Ok(between)
 }
 
+// The texts of the parts of the key that the tokens from a place to another are.
+fn parts_between(
+    alloc: Global,
+    tokens: &Tokens<'_>,
+    start: usize,
+    stop: usize,
+) -> Result<PartTexts, Memory>
+    requires order { start ≤ stop }
+    requires within { stop ≤ length tokens.now }
+    ensures { IfOk result (λ parts. parts ≡ part_texts (slice_range tokens.now start stop)) }
+{
+    let key = tokens_between(alloc, tokens, start, stop)?;
+    part_texts(alloc, &key)
+}
+
 // Puts the texts of the parts of the key last that begins at a place, where one does.
 fn push_parts(
     alloc: Global,
@@ -247,8 +285,8 @@ fn push_parts(
     }
     let _facts = tokens.len();
     let count = count_before(tokens, place + 1);
-    let key = tokens_between(alloc, tokens, place, place + count)?;
-    parts.push(part_texts(alloc, &key)?)?;
+    let own = parts_between(alloc, tokens, place, place + count)?;
+    parts.push(own)?;
     Ok(())
 }
 

@@ -13,12 +13,21 @@ const DEEPEST: usize = 64;
 const GREATEST: i64 = 1_000_000;
 
 /// What the tokens are, up to the first with which no script goes on.
-#[derive(Drop)]
 pub(crate) struct Reading {
     /// What may follow, the next last.
     awaited: Vec<Symbol>,
     /// What each token is that was read.
     roles: Vec<Role>,
+}
+
+// Dropped by one function, so that no other need prove anew how it is taken apart.
+impl Drop for Reading {
+    fn drop(self) {
+        let Reading {
+            awaited: _,
+            roles: _,
+        } = self;
+    }
 }
 
 // Whether a qualifier stands in the key of this place before it.
@@ -91,6 +100,14 @@ fn may_be_left_out(symbol: Symbol) -> bool {
         Symbol::Then(part) => is_optional(part),
         _ => false,
     }
+}
+
+// Puts symbols last, the first of them at the end.
+fn push_all(symbols: &[Symbol], awaited: &mut Vec<Symbol>) -> Result<(), Memory> {
+    for symbol in symbols.iter().rev() {
+        awaited.push(*symbol)?;
+    }
+    Ok(())
 }
 
 impl Reading {
@@ -199,10 +216,7 @@ impl Reading {
         let role = self.role_of(form.0);
         self.roles.push(role)?;
         self.awaited.truncate(kept);
-        for symbol in form.1.iter().rev() {
-            self.awaited.push(*symbol)?;
-        }
-        Ok(())
+        push_all(form.1, &mut self.awaited)
     }
 
     // Reads the token at a place, and says whether some script goes on with it. If none does, nothing changes.
