@@ -1,6 +1,6 @@
 //! The line of the cause of a refusal.
 
-ghost use Rattle.std.specs.Prelude.{◌≡◌, ◌<◌, ◌≤◌, not, length, Ok, IfOk, IfSome};
+ghost use Rattle.std.specs.Prelude.{◌≡◌, ◌<◌, ◌≤◌, ◌++◌, codes, decimal, not, length, Ok, IfOk, IfSome, OnOk};
 ghost use Rattle.std.specs.List.{suffix_len};
 ghost use Rattle.pgs_lexer.specs.Form.{is_line_feed};
 ghost use Rattle.std.specs.Char.{digit_char};
@@ -52,6 +52,19 @@ fn column_at(text: &[u8], place: usize) -> u64
     1 + last_size(&text[..place]) as u64
 }
 
+// Puts the front of a line last, which tells a place.
+fn push_place(text: &[u8], place: usize, line: &mut TextBuffer) -> Result<(), Memory>
+    requires { place ≤ length text.now }
+    ensures { OnOk result (line.new ≡ line.old ++ (codes "because line " ++ (decimal (line_at text.now place)
+        ++ (codes ", column " ++ (decimal (column_at text.now place) ++ codes ": "))))) }
+{
+    line.push(b"because line ")?;
+    line.push_number(line_at(text, place))?;
+    line.push(b", column ")?;
+    line.push_number(column_at(text, place))?;
+    line.push(b": ")
+}
+
 // The line of a cause at a place.
 fn line_of(
     alloc: Global,
@@ -64,11 +77,7 @@ fn line_of(
     ensures { IfOk result (λ line. line ≡ because_line (line_at text.now place) (column_at text.now place) found.now others.now) }
 {
     let mut line = TextBuffer::with_room(alloc, ROOM)?;
-    line.push(b"because line ")?;
-    line.push_number(line_at(text, place))?;
-    line.push(b", column ")?;
-    line.push_number(column_at(text, place))?;
-    line.push(b": ")?;
+    push_place(text, place, &mut line)?;
     line.push(found)?;
     line.push(others)?;
     line.push(b"\n")?;
