@@ -2,7 +2,7 @@ ghost use Rattle.std.specs.Prelude.{◌≡◌};
 ghost use Rattle.pgs_world_files.specs.Access.{access_of_a, access_of_b, is_beside};
 
 /// How a run opens one file of a store.
-#[derive(Clone, Copy, Debug, PartialEq, Eq)]
+#[derive(Clone, Copy)]
 pub enum Access {
     /// To be read, under a lock that readers share; and to be written where it may, since a sync that failed is made good by writes.
     Read,
@@ -19,7 +19,7 @@ pub enum Access {
 }
 
 /// What a run does with a store. The lock of NAME.a says who writes, that of NAME.b who writes over.
-#[derive(Clone, Copy, Debug, PartialEq, Eq)]
+#[derive(Clone, Copy)]
 pub enum StoreAccess {
     /// It reads it, beside other runs that read it, and beside one that appends to it.
     Read,

@@ -107,7 +107,7 @@ impl FileCause {
 }
 
 /// Why a file isn't opened: a cause that lies in the file, or want of memory.
-#[derive(Clone, Copy, PartialEq, Eq)]
+#[derive(Clone, Copy)]
 pub enum OpenFault {
     File(FileCause),
     Memory,

@@ -4,7 +4,7 @@ ghost use Rattle.pgs_world.specs.Count.{Rose, RoseByOne, raised};
 /// How often the world was called, how often a call on an area and a put failed, and how often a put didn't. A
 /// count of calls or faults stops at the end of a u64. The calls go on from the moment at which the last one began, where its parts had
 /// calls before.
-#[derive(Clone, Copy, PartialEq, Eq)]
+#[derive(Clone, Copy)]
 pub struct Counts {
     pub calls: u64,
     pub area_faults: u64,

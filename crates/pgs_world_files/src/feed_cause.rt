@@ -29,7 +29,7 @@ impl FeedCause {
 }
 
 /// Why a feed's file isn't opened: a cause that lies in the file, or want of memory.
-#[derive(Clone, Copy, PartialEq, Eq)]
+#[derive(Clone, Copy)]
 pub enum FeedOpenFault {
     Feed(FeedCause),
     Memory,

@@ -1,5 +1,5 @@
 /// How a file of a store is open.
-#[derive(Clone, Copy, PartialEq, Eq)]
+#[derive(Clone, Copy)]
 pub enum Mode {
     /// To be read and written.
     ToWrite,

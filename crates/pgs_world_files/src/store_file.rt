@@ -12,7 +12,7 @@ use std::io::{self, ErrorKind};
 const BLOCK: u64 = 512;
 
 /// What was written into a file since its last sync.
-#[derive(Clone, Copy, PartialEq, Eq)]
+#[derive(Clone, Copy)]
 pub enum Unsynced {
     /// Nothing.
     Nothing,
