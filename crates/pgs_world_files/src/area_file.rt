@@ -14,10 +14,19 @@ use std::io;
 
 /// An area in a file: an open and locked file, or none, and then every call is a fault. An area has at most 2^40 bytes. It keeps the cause
 /// of its last fault, and where there is no file, why.
-#[derive(Drop)]
 pub struct AreaFile<H: Handle> {
     handle: Option<H>,
     cause: Option<FileCause>,
+}
+
+// Dropped by one function, so that no other one, and none above, need prove anew how it is taken apart.
+impl<H: Handle> Drop for AreaFile<H> {
+    fn drop(self) {
+        let AreaFile {
+            handle: _,
+            cause: _,
+        } = self;
+    }
 }
 
 impl<H: Handle> AreaFile<H> {

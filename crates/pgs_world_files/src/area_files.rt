@@ -15,12 +15,22 @@ use std::alloc::Global;
 
 /// The two areas of a store, each in a file. A call on them begins at a moment; at the last one that a u64 can name it is a fault, and nothing is
 /// called.
-#[derive(Drop)]
 pub struct AreaFiles<H: Handle> {
     a: AreaFile<H>,
     b: AreaFile<H>,
     // The area of the last fault.
     failed: Option<Area>,
+}
+
+// Dropped by one function, so that no other one, and none above, need prove anew how it is taken apart.
+impl<H: Handle> Drop for AreaFiles<H> {
+    fn drop(self) {
+        let AreaFiles {
+            a: _,
+            b: _,
+            failed: _,
+        } = self;
+    }
 }
 
 /// The name of a file of a store: the store's, and then an ending, `.a` or `.b`.
@@ -30,6 +40,19 @@ pub fn file_name(alloc: Global, store: &str, ending: &str) -> Result<String, Mem
     let mut name = String::from_str(alloc, store)?;
     name.push_str(ending)?;
     Ok(name)
+}
+
+// The file of a store whose name has this ending, opened for this access.
+fn open_one<O: Opening>(
+    system: &mut O,
+    alloc: Global,
+    store: &str,
+    ending: &str,
+    access: Access,
+) -> Result<AreaFile<O::Area>, Memory>
+    ensures { IfOk result (λ area. O.area_gives (store.now ++ ending.now) access area) }
+{
+    system.open_area(file_name(alloc, store, ending)?, access)
 }
 
 // The cause of a file with this ending, where there is one.
@@ -54,11 +77,11 @@ impl<H: Handle> AreaFiles<H> {
     ) -> Result<AreaFiles<H>, Memory>
         ensures { IfOk result (λ areas. AreOpened O.area_gives store.now of_a of_b areas) }
     {
-        let a = system.open_area(file_name(alloc, store, ".a")?, of_a)?;
+        let a = open_one(system, alloc, store, ".a", of_a)?;
         if !a.is_open() {
             return Ok(AreaFiles::new(a, AreaFile::absent(None)));
         }
-        let b = system.open_area(file_name(alloc, store, ".b")?, of_b)?;
+        let b = open_one(system, alloc, store, ".b", of_b)?;
         Ok(AreaFiles::new(a, b))
     }
 

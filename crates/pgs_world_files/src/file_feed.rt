@@ -15,12 +15,23 @@ use pgs_world_streams::{SteadyWrite, write_whole};
 ///
 /// It tells its bytes where its writer does: all that the writer holds, and so what stood in it before too. A file of the system doesn't tell.
 /// What a stop leaves of them it never tells: so all its calls begin at the moment 0.
-#[derive(Drop)]
 pub struct FileFeed<W: SteadyWrite + Drop> {
     writer: Option<W>,
     last: Option<u64>,
     cause: Option<FeedCause>,
     faults: u64,
+}
+
+// Dropped by one function, so that no other one, and none above, need prove anew how it is taken apart.
+impl<W: SteadyWrite + Drop> Drop for FileFeed<W> {
+    fn drop(self) {
+        let FileFeed {
+            writer: _,
+            last: _,
+            cause: _,
+            faults: _,
+        } = self;
+    }
 }
 
 // Whether a piece is none to stand behind the last line of a file: that has a number, and the piece isn't the line of a commit above it.

@@ -12,7 +12,6 @@ use std::io::{self, ErrorKind};
 
 /// A file of the system. `this` is what the system said of it behind its lock: its device and its number stay as long as it is open. `again`
 /// is the same file, opened once more to be written.
-#[derive(Drop)]
 pub struct SystemFile<'a, S: System> {
     system: &'a S,
     name: String,
@@ -20,6 +19,20 @@ pub struct SystemFile<'a, S: System> {
     mode: Mode,
     this: Found,
     again: Option<S::File>,
+}
+
+// Dropped by one function, so that no other one, and none above, need prove anew how it is taken apart.
+impl<'a, S: System> Drop for SystemFile<'a, S> {
+    fn drop(self) {
+        let SystemFile {
+            system: _,
+            name: _,
+            file: _,
+            mode: _,
+            this: _,
+            again: _,
+        } = self;
+    }
 }
 
 impl<'a, S: System> SystemFile<'a, S> {
