@@ -1,3 +1,4 @@
+pub mod ByDigest
 pub mod Digests
 pub mod Few
 pub mod Index

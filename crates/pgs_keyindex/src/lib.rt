@@ -8,6 +8,7 @@
 //! whether they do (`specs/Table.antt`). So no tuple is kept twice, and `commit` changes rows alone.
 #![tactic(auto)]
 
+mod by_digest;
 mod change;
 mod digest;
 mod few;
